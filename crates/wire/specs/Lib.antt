@@ -1,0 +1,5 @@
+pub mod Numbers
+pub mod Faults
+pub mod Frames
+pub mod Settings
+pub mod DataFrames
