@@ -1,3 +1,9 @@
 pub mod Octets
 pub mod RoundTrip
 pub mod Writes
+pub mod Decimals
+pub mod MemberSteps
+pub mod Meanings
+pub mod Sound
+pub mod Complete
+pub mod Readings
