@@ -1,12 +1,13 @@
 -- What is computed of a value is what the grammar says of it.
 use mathlib.Core.Path.{_≡_, refl, sym, ap, _∙_}
 use mathlib.Core.Bool.{Bool, true, false, cond}
-use mathlib.Core.List.{List}
+use mathlib.Core.List.{List, [], _∷_}
 use Prim.Native.Nat.{ℕ, _≤_}
 use native.Mathlib.Omega.{arith}
 use lib.Dec.{leb}
 use lib.ListN.{length}
 use Rattle.std.specs.Options.{mapped}
+use Rattle.std.specs.shelf.Lists.{All}
 use Rattle.std.specs.declared.option.Option.{Option}
 use Rattle.std.specs.declared.option.Option.the-variants.{Some, None}
 use Rattle.std.proofs.shelf.Tests.{cond-true, le-leb, leb-true}
@@ -14,6 +15,7 @@ use Rattle.wire.specs.declared.priorities.Latest.{Latest}
 use Rattle.wire.specs.declared.priorities.Priority.{Priority}
 use Rattle.wire.specs.Grammar.{Member, Value, priorityOf, meaning, Readable, Reads}
 use Rattle.wire.specs.Values.{latestIn, valueOf}
+use Rattle.wire.specs.Worked.{Example}
 use Rattle.wire.proofs.Meanings.{gathered-latest}
 use Rattle.wire.proofs.Sound.{sound}
 use Rattle.wire.proofs.Complete.{complete}
@@ -40,3 +42,8 @@ reads bs (Some p) e =
       (from .0, (from .1, leb-true (length bs) 256 (way .0))),
       λ ms readable. let is = read-whole bs ms readable in cc,
     )
+
+-- examples whose answers are computed are derived
+pub examples-derived : (es : List Example) → All (λ e. e .answer ≡ valueOf (e .value)) es → All (λ e. Reads (e .value) (e .answer)) es
+examples-derived [] h = tt
+examples-derived (e ∷ es) h = (reads (e .value) (e .answer) (h .0), examples-derived es (h .1))

@@ -6,3 +6,4 @@ pub mod DataFrames
 pub mod Urgencies
 pub mod Grammar
 pub mod Values
+pub mod Worked

@@ -6,7 +6,6 @@ use crate::numbers::number;
 use crate::numbers::without_top_bit;
 use crate::settings::Pairs;
 ghost use mathlib.Core.Path.{_≡_};
-ghost use mathlib.Core.List.{_++_};
 ghost use Prim.Native.Nat.{_+_, _≤_, _<_};
 ghost use lib.ListN.{length, take, drop};
 ghost use Rattle.wire.specs.Frames.{told, frameOf, settingsFrame, windowUpdateFrame, resetStreamFrame, priorityUpdateFrame, frameEnd};

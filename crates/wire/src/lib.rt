@@ -7,6 +7,7 @@ mod numbers;
 pub mod priorities;
 pub mod settings;
 pub mod urgencies;
+pub mod worked;
 
 pub use data_frames::Data;
 pub use data_frames::read_data;
@@ -22,3 +23,4 @@ pub use priorities::read_priority_update;
 pub use settings::Pairs;
 pub use settings::Setting;
 pub use urgencies::Urgency;
+pub use worked::worked_priorities;

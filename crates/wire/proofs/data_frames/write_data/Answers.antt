@@ -20,7 +20,7 @@ returns c =
     let header : c .copy-from-slice .last .self ≡ headerOctets (record { length = length payload; kind = 0; flags = cond (c .args .end) 1 0; stream = c .args .stream })
     = c .copy-from-slice .ensures .after ∙ c .header-octets-header .ensures ∙ ap (λ f. headerOctets (record { length = length payload; kind = 0; flags = f; stream = c .args .stream })) flags in
     let body = c .copy-from-slice-2 .ensures .after in
-    let put = two-puts (c .args .memory .now) (c .copy-from-slice .last .self) (c .copy-from-slice-2 .last .self) (c .args .at) 9 (length payload) _ _
+    let put : _ ≡ putAt (c .args .memory .now) (c .args .at) octets = two-puts (c .args .memory .now) (c .copy-from-slice .last .self) (c .copy-from-slice-2 .last .self) (c .args .at) 9 (length payload) _ _
     (ap length header) (ap length body) (omega arith) (omega arith) (omega arith)
     ∙ (λ i. putAt (c .args .memory .now) (c .args .at) (header i ++ body i)) in
     record {
