@@ -7,7 +7,7 @@ ghost use mathlib.Core.Path.{_≡_};
 ghost use Rattle.wire.specs.Frames.{headerOf, AsLong, headerOctets};
 
 // The header of a frame: the payload's length, the type, the flags and the stream id without its reserved bit.
-#[derive(Clone, Copy, PartialEq, Eq, Debug)]
+#[derive(Clone, Copy)]
 pub struct Header {
     pub length: u32,
     pub kind: u8,

@@ -19,14 +19,14 @@ pub struct Priority {
 }
 
 // What a member of a priority value says: true or false, or an integer.
-#[derive(Clone, Copy, PartialEq, Eq, Debug)]
+#[derive(Clone, Copy)]
 pub enum Item {
     Boolean(bool),
     Integer(i64),
 }
 
 // The latest members `u` and `i` of a value; an absent one is none.
-#[derive(Clone, Copy, PartialEq, Eq, Debug)]
+#[derive(Clone, Copy)]
 pub struct Latest {
     pub u: Option<Item>,
     pub i: Option<Item>,
