@@ -1,0 +1,164 @@
+// The lines of a listing: what a line says of a frame, and its text.
+use std::alloc::AllocError;
+use std::fmt;
+use wire::Fault;
+use wire::Frame;
+use wire::Pairs;
+use wire::read_data;
+use wire::read_frame;
+use wire::settings::PairsIterator;
+ghost use mathlib.Core.Path.{_≡_};
+ghost use mathlib.Core.List.{_++_};
+ghost use Rattle.std.specs.Of.String.{string-bytes};
+ghost use Rattle.std.specs.Results.{isOk};
+ghost use Rattle.std.specs.Vec.{made};
+ghost use Rattle.wire.specs.DataFrames.{dataOf};
+ghost use Rattle.recording.specs.Lines.{said, saidOf, saidData, payload, refused, Short, textOf};
+
+// What a line says of one frame.
+#[derive(Clone, Copy)]
+pub enum Line<'a> {
+    Settings(Pairs<'a>),
+    SettingsAck,
+    Window {
+        stream: u32,
+        increment: u32,
+    },
+    Reset {
+        stream: u32,
+        code: u32,
+    },
+    Data {
+        stream: u32,
+        length: usize,
+        end: bool,
+    },
+    Frame {
+        kind: u8,
+        stream: u32,
+    },
+    Fault(Fault),
+}
+
+// The type of a DATA frame.
+const DATA: u8 = 0x0;
+
+impl<'a> Line<'a> {
+    // What is said of exactly one frame, or of what a recording that stops inside a frame has of it.
+    pub(crate) fn of(octets: &'a [u8]) -> Line<'a>
+        ensures says { λ r. ⌜ said r ≡ saidOf (now (octets .entry)) ⌝ }
+        ensures short { λ r. ⌜ Short r ⌝ }
+    {
+        match read_frame(octets) {
+            Ok(Frame::Settings(pairs)) => Line::Settings(pairs),
+            Ok(Frame::SettingsAck) => Line::SettingsAck,
+            Ok(Frame::WindowUpdate { stream, increment }) => Line::Window { stream, increment },
+            Ok(Frame::ResetStream { stream, code }) => Line::Reset { stream, code },
+            Ok(Frame::PriorityUpdate { target, .. }) => Line::Frame {
+                kind: 16,
+                stream: target,
+            },
+            Ok(Frame::Other { kind, stream }) => {
+                if kind == DATA {
+                    Line::of_data(octets)
+                } else {
+                    Line::Frame { kind, stream }
+                }
+            }
+            Err(fault) => Line::Fault(fault),
+        }
+    }
+
+    // What is said of a DATA frame.
+    fn of_data(octets: &'a [u8]) -> Line<'a>
+        ensures says { λ r. ⌜ said r ≡ saidData (dataOf (now (octets .entry))) ⌝ }
+        ensures short { λ r. ⌜ Short r ⌝ }
+    {
+        match read_data(octets) {
+            Ok(data) => Line::Data {
+                stream: data.stream,
+                length: data.payload.len(),
+                end: data.end,
+            },
+            Err(fault) => Line::Fault(fault),
+        }
+    }
+
+    // Appends the text of a line.
+    pub(crate) fn append(self, index: u64, text: &mut String) -> Result<(), AllocError>
+        requires { ⌜ Short self ⌝ }
+        ensures { λ r. ⌜ made r (λ _. string-bytes (now (text .exit)) ≡ string-bytes (now (text .entry)) ++ textOf index (said (self .entry))) ⌝ }
+    {
+        match self {
+            Line::Settings(pairs) => append_settings(index, pairs, text),
+            Line::SettingsAck => written(writeln!(text, "{index} settings ack")),
+            Line::Window { stream, increment } => written(writeln!(
+                text,
+                "{index} window {stream} {increment}"
+            )),
+            Line::Reset { stream, code } => written(writeln!(
+                text,
+                "{index} reset {stream} {code}"
+            )),
+            Line::Data {
+                stream,
+                length,
+                end,
+            } => append_data(index, stream, length, end, text),
+            Line::Frame { kind, stream } => written(writeln!(
+                text,
+                "{index} frame {kind} {stream}"
+            )),
+            Line::Fault(fault) => append_fault(index, fault, text),
+        }
+    }
+}
+
+// Want of memory is all that keeps text from being written to a `String`.
+pub(crate) fn written(outcome: fmt::Result) -> Result<(), AllocError>
+    ensures { λ r. ⌜ isOk r ≡ isOk outcome ⌝ }
+{
+    match outcome {
+        Ok(()) => Ok(()),
+        Err(_) => Err(AllocError),
+    }
+}
+
+// Appends the line of a SETTINGS frame: a field for each pair.
+fn append_settings(index: u64, pairs: Pairs, text: &mut String) -> Result<(), AllocError>
+    requires { ⌜ Short (Line.Settings pairs) ⌝ }
+    ensures { λ r. ⌜ made r (λ _. string-bytes (now (text .exit)) ≡ string-bytes (now (text .entry)) ++ textOf index (said (Line.Settings (pairs .entry)))) ⌝ }
+{
+    written(write!(text, "{index} settings"))?;
+    for pair in pairs {
+        let identifier = pair.identifier;
+        let value = pair.value;
+        written(write!(text, " {identifier}={value}"))?;
+    }
+    text.push('\n')
+}
+
+// Appends the line of a DATA frame.
+fn append_data(
+    index: u64,
+    stream: u32,
+    length: usize,
+    end: bool,
+    text: &mut String,
+) -> Result<(), AllocError>
+    ensures { λ r. ⌜ made r (λ _. string-bytes (now (text .exit)) ≡ string-bytes (now (text .entry)) ++ textOf index (payload stream length end)) ⌝ }
+{
+    let end = u8::from(end);
+    written(writeln!(text, "{index} data {stream} {length} {end}"))
+}
+
+// Appends the line of a frame that is refused.
+fn append_fault(index: u64, fault: Fault, text: &mut String) -> Result<(), AllocError>
+    ensures { λ r. ⌜ made r (λ _. string-bytes (now (text .exit)) ≡ string-bytes (now (text .entry)) ++ textOf index (refused fault)) ⌝ }
+{
+    let number = fault.number;
+    let code = fault.code;
+    let stream = fault.stream;
+    let place = fault.place;
+    written(writeln!(text, "{index} fault {number} {code} {stream} {place}"))
+}
