@@ -77,6 +77,10 @@ lineOf f fs = f ++ further fs
 abbrev pub pairField : Setting → List ℕ
 pairField s = decimal (s .identifier) ++ (61 ∷ decimal (s .value))
 
+-- the settings of a frame as fields
+abbrev pub pairFields : List ℕ → ℕ → List (List ℕ)
+pairFields o at = map pairField (settingsOf o at)
+
 -- a truth as a field
 abbrev pub flag : Bool → List ℕ
 flag b = decimal (cond b 1 0)

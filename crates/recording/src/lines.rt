@@ -13,7 +13,7 @@ ghost use Rattle.std.specs.Of.String.{string-bytes};
 ghost use Rattle.std.specs.Results.{isOk};
 ghost use Rattle.std.specs.Vec.{made};
 ghost use Rattle.wire.specs.DataFrames.{dataOf};
-ghost use Rattle.recording.specs.Lines.{said, saidOf, saidData, payload, refused, Short, textOf};
+ghost use Rattle.recording.specs.Lines.{said, saidOf, saidData, payload, refused, pairFields, further, Short, textOf};
 
 // What a line says of one frame.
 #[derive(Clone, Copy)]
@@ -124,12 +124,20 @@ pub(crate) fn written(outcome: fmt::Result) -> Result<(), AllocError>
     }
 }
 
-// Appends the line of a SETTINGS frame: a field for each pair.
+// Appends the line of a SETTINGS frame.
 fn append_settings(index: u64, pairs: Pairs, text: &mut String) -> Result<(), AllocError>
     requires { ⌜ Short (Line.Settings pairs) ⌝ }
     ensures { λ r. ⌜ made r (λ _. string-bytes (now (text .exit)) ≡ string-bytes (now (text .entry)) ++ textOf index (said (Line.Settings (pairs .entry)))) ⌝ }
 {
     written(write!(text, "{index} settings"))?;
+    append_pairs(pairs, text)
+}
+
+// Appends a field for each pair, and the end of the line.
+fn append_pairs(pairs: Pairs, text: &mut String) -> Result<(), AllocError>
+    requires { ⌜ Short (Line.Settings pairs) ⌝ }
+    ensures { λ r. ⌜ made r (λ _. string-bytes (now (text .exit)) ≡ string-bytes (now (text .entry)) ++ further (pairFields (now (pairs .entry .octets)) (pairs .entry .place))) ⌝ }
+{
     for pair in pairs {
         let identifier = pair.identifier;
         let value = pair.value;

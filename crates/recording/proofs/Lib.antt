@@ -1,0 +1,2 @@
+pub mod PairFields
+pub mod Outcomes
