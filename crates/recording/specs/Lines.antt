@@ -7,14 +7,19 @@ use lib.Dec.{eqb}
 use lib.ListN.{length, drop}
 use Rattle.std.specs.declared.result.Result.{Result}
 use Rattle.std.specs.declared.result.Result.the-variants.{Ok, Err}
+use Rattle.std.specs.Options.{okOr}
 use Rattle.std.specs.Written.{decimal}
 use Rattle.wire.specs.declared.faults.Fault.{Fault}
+use Rattle.wire.specs.declared.priorities.Priority.{Priority}
 use Rattle.wire.specs.declared.settings.Setting.{Setting}
 use Rattle.wire.specs.Frames.{Told, settings, settingsAck, windowUpdate, resetStream, priorityUpdate, other, frameOf}
 use Rattle.wire.specs.DataFrames.{ToldData, dataOf}
+use Rattle.wire.specs.Faults.{unreadablePriority}
 use Rattle.wire.specs.Settings.{settingAt}
+use Rattle.wire.specs.Urgencies.{urgencyNumber}
+use Rattle.wire.specs.Values.{valueOf}
 use Rattle.recording.specs.declared.lines.Line.{Line}
-use Rattle.recording.specs.declared.lines.Line.the-variants.{Settings, SettingsAck, Window, Reset, Data, Frame, Fault as Refused}
+use Rattle.recording.specs.declared.lines.Line.the-variants.{Settings, SettingsAck, Window, Reset, Priority as Update, Data, Frame, Fault as Refused}
 
 -- what a line says of a frame
 pub data Said : Type 0 where
@@ -22,6 +27,7 @@ pub data Said : Type 0 where
   ack : Said
   window : ℕ → ℕ → Said
   reset : ℕ → ℕ → Said
+  update : ℕ → Priority → Said
   payload : ℕ → ℕ → Bool → Said
   frame : ℕ → ℕ → Said
   refused : Fault → Said
@@ -35,6 +41,11 @@ settingsFrom (suc n) o at = settingAt o at ∷ settingsFrom n (drop 6 o) (at + 6
 abbrev pub settingsOf : List ℕ → ℕ → List Setting
 settingsOf o at = settingsFrom (length o / 6) o at
 
+-- what is said of a PRIORITY_UPDATE frame for a target
+abbrev pub saidPriority : ℕ → Result Priority Fault → Said
+saidPriority target (Ok p) = update target p
+saidPriority target (Err e) = refused e
+
 -- what is said of a frame of type DATA
 abbrev pub saidData : Result ToldData Fault → Said
 saidData (Ok d) = payload (d .stream) (length (d .payload)) (d .end)
@@ -46,7 +57,7 @@ saidTold o (Ok (settings octets at)) = pairs (settingsOf octets at)
 saidTold o (Ok settingsAck) = ack
 saidTold o (Ok (windowUpdate stream increment)) = window stream increment
 saidTold o (Ok (resetStream stream code)) = reset stream code
-saidTold o (Ok (priorityUpdate target value at)) = frame 16 target
+saidTold o (Ok (priorityUpdate target value at)) = saidPriority target (okOr (valueOf value) (unreadablePriority target))
 saidTold o (Ok (other kind stream)) = cond (eqb kind 0) (saidData (dataOf o)) (frame kind stream)
 saidTold o (Err e) = refused e
 
@@ -60,6 +71,7 @@ isFault (pairs xs) = false
 isFault ack = false
 isFault (window stream increment) = false
 isFault (reset stream code) = false
+isFault (update target p) = false
 isFault (payload stream octets end) = false
 isFault (frame kind stream) = false
 isFault (refused e) = true
@@ -91,6 +103,7 @@ fieldsOf (pairs xs) = codes "settings" ∷ map pairField xs
 fieldsOf ack = codes "settings" ∷ codes "ack" ∷ []
 fieldsOf (window stream increment) = codes "window" ∷ decimal stream ∷ decimal increment ∷ []
 fieldsOf (reset stream code) = codes "reset" ∷ decimal stream ∷ decimal code ∷ []
+fieldsOf (update target p) = codes "priority" ∷ decimal target ∷ decimal (urgencyNumber (p .urgency)) ∷ flag (p .incremental) ∷ []
 fieldsOf (payload stream octets end) = codes "data" ∷ decimal stream ∷ decimal octets ∷ flag end ∷ []
 fieldsOf (frame kind stream) = codes "frame" ∷ decimal kind ∷ decimal stream ∷ []
 fieldsOf (refused e) = codes "fault" ∷ decimal (e .number) ∷ decimal (e .code) ∷ decimal (e .stream) ∷ decimal (e .place) ∷ []
@@ -105,6 +118,7 @@ said (Settings p) = pairs (settingsOf (p .octets .now) (p .place))
 said SettingsAck = ack
 said (Window stream increment) = window stream increment
 said (Reset stream code) = reset stream code
+said (Update target p) = update target p
 said (Data stream octets end) = payload stream octets end
 said (Frame kind stream) = frame kind stream
 said (Refused e) = refused e
@@ -115,6 +129,7 @@ Short (Settings p) = p .place + length (p .octets .now) < 4294967296
 Short SettingsAck = Unit {0}
 Short (Window stream increment) = Unit {0}
 Short (Reset stream code) = Unit {0}
+Short (Update target p) = Unit {0}
 Short (Data stream octets end) = Unit {0}
 Short (Frame kind stream) = Unit {0}
 Short (Refused e) = Unit {0}

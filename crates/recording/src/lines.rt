@@ -4,16 +4,22 @@ use std::fmt;
 use wire::Fault;
 use wire::Frame;
 use wire::Pairs;
+use wire::Priority;
 use wire::read_data;
 use wire::read_frame;
+use wire::read_priority_update;
 use wire::settings::PairsIterator;
 ghost use mathlib.Core.Path.{_≡_};
-ghost use mathlib.Core.List.{_++_};
+ghost use mathlib.Core.List.{[], _∷_, _++_};
 ghost use Rattle.std.specs.Of.String.{string-bytes};
+ghost use Rattle.std.specs.Options.{okOr};
 ghost use Rattle.std.specs.Results.{isOk};
 ghost use Rattle.std.specs.Vec.{made};
+ghost use Rattle.std.specs.Written.{decimal};
 ghost use Rattle.wire.specs.DataFrames.{dataOf};
-ghost use Rattle.recording.specs.Lines.{said, saidOf, saidData, payload, refused, pairFields, further, Short, textOf};
+ghost use Rattle.wire.specs.Faults.{unreadablePriority};
+ghost use Rattle.wire.specs.Values.{valueOf};
+ghost use Rattle.recording.specs.Lines.{said, saidOf, saidData, saidPriority, ack, update, payload, refused, lineOf, pairFields, further, Short, textOf};
 
 // What a line says of one frame.
 #[derive(Clone, Copy)]
@@ -27,6 +33,10 @@ pub enum Line<'a> {
     Reset {
         stream: u32,
         code: u32,
+    },
+    Priority {
+        target: u32,
+        priority: Priority,
     },
     Data {
         stream: u32,
@@ -54,10 +64,7 @@ impl<'a> Line<'a> {
             Ok(Frame::SettingsAck) => Line::SettingsAck,
             Ok(Frame::WindowUpdate { stream, increment }) => Line::Window { stream, increment },
             Ok(Frame::ResetStream { stream, code }) => Line::Reset { stream, code },
-            Ok(Frame::PriorityUpdate { target, .. }) => Line::Frame {
-                kind: 16,
-                stream: target,
-            },
+            Ok(Frame::PriorityUpdate { target, value, .. }) => Line::of_priority(target, value),
             Ok(Frame::Other { kind, stream }) => {
                 if kind == DATA {
                     Line::of_data(octets)
@@ -65,6 +72,17 @@ impl<'a> Line<'a> {
                     Line::Frame { kind, stream }
                 }
             }
+            Err(fault) => Line::Fault(fault),
+        }
+    }
+
+    // What is said of a PRIORITY_UPDATE frame's target and value.
+    fn of_priority(target: u32, value: &'a [u8]) -> Line<'a>
+        ensures says { λ r. ⌜ said r ≡ saidPriority target (okOr (valueOf (now (value .entry))) (unreadablePriority target)) ⌝ }
+        ensures short { λ r. ⌜ Short r ⌝ }
+    {
+        match read_priority_update(target, value) {
+            Ok(priority) => Line::Priority { target, priority },
             Err(fault) => Line::Fault(fault),
         }
     }
@@ -91,24 +109,28 @@ impl<'a> Line<'a> {
     {
         match self {
             Line::Settings(pairs) => append_settings(index, pairs, text),
-            Line::SettingsAck => written(writeln!(text, "{index} settings ack")),
-            Line::Window { stream, increment } => written(writeln!(
+            Line::SettingsAck => append_ack(index, text),
+            Line::Window { stream, increment } => append_numbers(
+                index,
+                "window",
+                stream,
+                increment,
                 text,
-                "{index} window {stream} {increment}"
-            )),
-            Line::Reset { stream, code } => written(writeln!(
-                text,
-                "{index} reset {stream} {code}"
-            )),
+            ),
+            Line::Reset { stream, code } => append_numbers(index, "reset", stream, code, text),
+            Line::Priority { target, priority } => append_priority(index, target, priority, text),
             Line::Data {
                 stream,
                 length,
                 end,
             } => append_data(index, stream, length, end, text),
-            Line::Frame { kind, stream } => written(writeln!(
+            Line::Frame { kind, stream } => append_numbers(
+                index,
+                "frame",
+                u32::from(kind),
+                stream,
                 text,
-                "{index} frame {kind} {stream}"
-            )),
+            ),
             Line::Fault(fault) => append_fault(index, fault, text),
         }
     }
@@ -144,6 +166,40 @@ fn append_pairs(pairs: Pairs, text: &mut String) -> Result<(), AllocError>
         written(write!(text, " {identifier}={value}"))?;
     }
     text.push('\n')
+}
+
+// Appends the line of an acknowledgement.
+fn append_ack(index: u64, text: &mut String) -> Result<(), AllocError>
+    ensures { λ r. ⌜ made r (λ _. string-bytes (now (text .exit)) ≡ string-bytes (now (text .entry)) ++ textOf index ack) ⌝ }
+{
+    written(writeln!(text, "{index} settings ack"))
+}
+
+// Appends a line of a word and two numbers.
+fn append_numbers(
+    index: u64,
+    word: &str,
+    first: u32,
+    second: u32,
+    text: &mut String,
+) -> Result<(), AllocError>
+    ensures { λ r. ⌜ made r (λ _. string-bytes (now (text .exit)) ≡ string-bytes (now (text .entry)) ++ lineOf (decimal index) (now (word .entry) ∷ decimal first ∷ decimal second ∷ [])) ⌝ }
+{
+    written(writeln!(text, "{index} {word} {first} {second}"))
+}
+
+// Appends the line of a PRIORITY_UPDATE frame.
+fn append_priority(
+    index: u64,
+    target: u32,
+    priority: Priority,
+    text: &mut String,
+) -> Result<(), AllocError>
+    ensures { λ r. ⌜ made r (λ _. string-bytes (now (text .exit)) ≡ string-bytes (now (text .entry)) ++ textOf index (update target priority)) ⌝ }
+{
+    let urgency = priority.urgency.number();
+    let incremental = u8::from(priority.incremental);
+    written(writeln!(text, "{index} priority {target} {urgency} {incremental}"))
 }
 
 // Appends the line of a DATA frame.

@@ -1,6 +1,13 @@
-use mathlib.Core.Path.{_≡_, sym, ap, _∙_}
-use Rattle.recording.proofs.Outcomes.{made-ok, made-as}
+use mathlib.Core.Path.{sym}
+use lib.Chars.{codes}
+use Rattle.std.specs.Of.String.{string-bytes}
+use Rattle.std.specs.Written.{decimal}
+use Rattle.recording.proofs.Outcomes.{made-ok, made-behind}
+use Rattle.recording.proofs.PairFields.{toCome}
 use Rattle.recording.proofs.lines.append_settings.Needs as need
 
 pub returns : need.returns
-returns c = let w = c .write .ensures .bytes in let p = c .append-pairs .ensures in ?
+returns c =
+    made-behind (c .append-pairs .result) (string-bytes (c .args .text .now)) (decimal (c .args .index)) (codes " settings") (toCome (c .args .pairs))
+    (string-bytes (c .write .last .self)) _
+    (made-ok (c .write .result) _ (sym (c .in-Continue-written .ensures tt)) (c .write .ensures .bytes)) (c .append-pairs .ensures)
