@@ -1,2 +1,3 @@
 pub mod PairFields
 pub mod Outcomes
+pub mod Steps
