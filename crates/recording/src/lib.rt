@@ -1,7 +1,8 @@
 // The listing of a recording: a line for each frame of its octets, and a last line with the counts.
-pub mod lines;
-pub mod listings;
-pub mod printing;
+mod lines;
+mod listings;
+mod printing;
+mod texts;
 
 pub use listings::Listing;
 pub use listings::steps::list;

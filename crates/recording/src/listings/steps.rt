@@ -1,7 +1,7 @@
 // A listing line by line, and as a whole.
 use crate::lines::Line;
-use crate::lines::written;
 use crate::listings::Listing;
+use crate::texts::written;
 use std::alloc::AllocError;
 use std::alloc::Global;
 ghost use mathlib.Core.Path.{_≡_};

@@ -4,7 +4,7 @@ use Rattle.std.specs.Of.String.{string-bytes}
 use Rattle.std.specs.Written.{decimal}
 use Rattle.recording.proofs.Outcomes.{made-ok, made-behind}
 use Rattle.recording.proofs.PairFields.{toCome}
-use Rattle.recording.proofs.lines.append_settings.Needs as need
+use Rattle.recording.proofs.texts.append_settings.Needs as need
 
 pub returns : need.returns
 returns c =

@@ -4,7 +4,7 @@ use lib.Utf8.{encode}
 use Rattle.std.specs.Of.String.{string-bytes}
 use Rattle.recording.proofs.PairFields.{pair-written, pairs-written, toCome}
 use Rattle.recording.proofs.Outcomes.{made-ok, made-push}
-use Rattle.recording.proofs.lines.append_pairs.Needs as need
+use Rattle.recording.proofs.texts.append_pairs.Needs as need
 
 pub loop-pair-again : need.loop-pair-again
 loop-pair-again c =

@@ -2,7 +2,7 @@ use mathlib.Core.Path.{_≡_}
 use mathlib.Core.List.{_++_}
 use Rattle.std.specs.Of.String.{string-bytes}
 use Rattle.recording.proofs.PairFields.{Ending, toCome}
-use Rattle.recording.proofs.lines.append_pairs.Given as given
+use Rattle.recording.proofs.texts.append_pairs.Given as given
 
 abbrev pub Inv-loop-pair : given.InvT-loop-pair
 Inv-loop-pair l =
