@@ -9,7 +9,7 @@ use lib.ListN.{length, drop, length-drop}
 use Rattle.std.proofs.shelf.Lists.{append-nil}
 use Rattle.std.proofs.shelf.Tests.{not-true, not-false, eqb-false, cond-true, cond-false, cond-both}
 use Rattle.wire.specs.Frames.{field, frameEnd}
-use Rattle.recording.specs.Listings.{State, done, next, moved, nextText, movedText, sumText, textFrom}
+use Rattle.recording.specs.Listings.{State, done, next, moved, nextText, movedText, sumText, textFrom, toCome}
 
 -- a frame has an octet at least, where any is left
 frame-some : (o : List ℕ) → 0 < length o → 0 < frameEnd o
@@ -32,10 +32,6 @@ fewer-left s t more answer went after =
     let end : 0 < frameEnd (s .left) = frame-some (s .left) some in
     let len : length (t .left) ≡ length (s .left) - frameEnd (s .left) = ap (λ u. length (u .left)) e ∙ length-drop (frameEnd (s .left)) (s .left) in
     omega (arith, some, end, len)
-
--- the text that is still to come; no more frames are left than octets were not counted as frames
-abbrev pub toCome : State → List ℕ
-toCome s = textFrom (s .octets - s .frames) s
 
 -- a line moves from what is to come to what is written
 pub line-written : (s t : State) (more : Bool) (before after all : List ℕ) → s .frames + length (s .left) ≤ s .octets → more ≡ not (done s) → more ≡ true → t ≡ moved s

@@ -1,7 +1,7 @@
 -- The listing of a recording: a line for each frame, and a last line with the counts.
 use mathlib.Core.Bool.{Bool, true, false, cond}
 use mathlib.Core.List.{List, [], _∷_, _++_}
-use Prim.Native.Nat.{ℕ, zero, suc, _+_}
+use Prim.Native.Nat.{ℕ, zero, suc, _+_, _-_}
 use lib.Chars.{codes}
 use lib.Dec.{eqb}
 use lib.ListN.{length, take, drop}
@@ -61,6 +61,10 @@ sumText s = lineOf (codes "sum") (decimal (s .frames) ∷ decimal (s .faults) �
 abbrev pub textFrom : ℕ → State → List ℕ
 textFrom zero s = sumText s
 textFrom (suc n) s = cond (done s) (sumText s) (nextText s ++ textFrom n (next s))
+
+-- the text that is still to come: no more lines than octets that are not counted as lines
+abbrev pub toCome : State → List ℕ
+toCome s = textFrom (s .octets - s .frames) s
 
 -- the whole listing of a recording, which has no more frames than octets
 abbrev pub listingOf : List ℕ → List ℕ

@@ -7,3 +7,6 @@ mod texts;
 pub use listings::Listing;
 pub use listings::steps::list;
 pub use printing::print;
+
+#[cfg(test)]
+mod tests;

@@ -2,7 +2,8 @@
 ghost use Prim.Native.Nat.{_+_, _≤_};
 ghost use lib.ListN.{length};
 
-pub mod steps;
+mod chunks;
+pub(crate) mod steps;
 
 // What is left of the octets, the lines and the faults among them so far, and how many octets there were at first.
 #[derive(Drop)]

@@ -4,9 +4,6 @@ use std::io;
 use std::io::Read;
 use std::io::Write;
 
-// How long the text grows before it is written out.
-const CHUNK: usize = 65_536;
-
 // Lists the recording on standard input.
 pub fn print(rt: &LibcRuntime) -> io::Result<()> {
     let mut octets = Vec::new(rt.alloc());
@@ -14,12 +11,9 @@ pub fn print(rt: &LibcRuntime) -> io::Result<()> {
     let mut out = rt.stdout();
     let mut text = String::new(rt.alloc());
     let mut listing = Listing::new(octets.as_slice());
-    while listing.append_line(&mut text)? {
-        if text.len() >= CHUNK {
-            out.write_all(text.as_bytes())?;
-            text.clear();
-        }
+    while listing.append_chunk(&mut text)? {
+        out.write_all(text.as_bytes())?;
+        text.clear();
     }
-    listing.append_sum(&mut text)?;
     out.write_all(text.as_bytes())
 }

@@ -2,8 +2,7 @@ use mathlib.Core.Path.{_≡_}
 use mathlib.Core.List.{_++_}
 use lib.ListN.{length}
 use Rattle.std.specs.Of.String.{string-bytes}
-use Rattle.recording.specs.Listings.{state, listingOf}
-use Rattle.recording.proofs.Steps.{toCome}
+use Rattle.recording.specs.Listings.{state, toCome, listingOf}
 use Rattle.recording.proofs.listings.steps.list.Given as given
 
 abbrev pub Inv-loop-text : given.InvT-loop-text
