@@ -32,24 +32,24 @@ abbrev pub Ending : Pairs → Type 0
 Ending s = s .place + length (s .octets .now) < 4294967296
 
 -- the fields that are still to come
-abbrev pub toCome : Pairs → List ℕ
-toCome s = further (pairFields (s .octets .now) (s .place))
+abbrev pub fieldsToCome : Pairs → List ℕ
+fieldsToCome s = further (pairFields (s .octets .now) (s .place))
 
 -- a pair moves from what is to come to what is written
 pub pair-written : (s t : Pairs) (x : Setting) (before after all : List ℕ) → Next s (Some x) t → Ending s
-    → before ++ toCome s ≡ all → after ≡ before ++ (32 ∷ pairField x) → (after ++ toCome t ≡ all) × Ending t
+    → before ++ fieldsToCome s ≡ all → after ≡ before ++ (32 ∷ pairField x) → (after ++ fieldsToCome t ≡ all) × Ending t
 pair-written s t x before after all n end inv e =
     let six : 6 ≤ length (s .octets .now) = leb-true _ _ (and-parts (leb 6 (length (s .octets .now))) (ltb (s .place + 6) 4294967296) (n .0) .0) in
     let fields : pairFields (s .octets .now) (s .place) ≡ pairField x ∷ pairFields (t .octets .now) (t .place)
     = pairs-more (s .octets .now) (s .place) six ∙ (λ i. pairField (sym (n .1) i) ∷ pairFields (sym (n .2) i) (sym (n .3) i)) in
     let len : length (t .octets .now) ≡ length (s .octets .now) - 6 = ap length (n .2) ∙ length-drop 6 (s .octets .now) in
     let place : t .place ≡ s .place + 6 = n .3 in (
-      ap (λ a. a ++ toCome t) e ∙ append-assoc before (32 ∷ pairField x) (toCome t) ∙ ap (λ fs. before ++ further fs) (sym fields) ∙ inv,
+      ap (λ a. a ++ fieldsToCome t) e ∙ append-assoc before (32 ∷ pairField x) (fieldsToCome t) ∙ ap (λ fs. before ++ further fs) (sym fields) ∙ inv,
       omega (arith, len, place),
     )
 
 -- behind the last pair only the newline is to come
-pub pairs-written : (s t : Pairs) → Next s None t → Ending s → toCome s ≡ 10 ∷ []
+pub pairs-written : (s t : Pairs) → Next s None t → Ending s → fieldsToCome s ≡ 10 ∷ []
 pairs-written s t n end =
     let few : length (s .octets .now) < 6
     = ⊎-elim (λ e. leb-false _ _ e) (λ e. let far : 4294967296 ≤ s .place + 6 = ltb-false _ _ e in omega arith)

@@ -2,7 +2,7 @@ use mathlib.Core.Path.{_≡_, sym, ap, _∙_}
 use mathlib.Core.List.{List, [], _∷_, _++_}
 use lib.Utf8.{encode}
 use Rattle.std.specs.Of.String.{string-bytes}
-use Rattle.recording.proofs.PairFields.{pair-written, pairs-written, toCome}
+use Rattle.recording.proofs.PairFields.{pair-written, pairs-written, fieldsToCome}
 use Rattle.recording.proofs.Outcomes.{made-ok, made-push}
 use Rattle.recording.proofs.texts.append_pairs.Needs as need
 
@@ -15,6 +15,6 @@ pub returns : need.returns
 unfolding encode
 returns c =
     let rest = pairs-written (c .loop-pair .pair-iterator) (c .next .last .self) (c .in-None .ensures tt .steps) (c .loop-pair .inv .1) in
-    let all : string-bytes (c .loop-pair .text) ++ (10 ∷ []) ≡ string-bytes (c .args .text .now) ++ toCome (c .args .pairs)
-    = ap (λ x. string-bytes (c .loop-pair .text) ++ x) (sym rest) ∙ c .loop-pair .inv .0 ∙ ap (λ s. string-bytes (c .args .text .now) ++ toCome s) (c .into-iter-pair-iterator .ensures .becomes) in
+    let all : string-bytes (c .loop-pair .text) ++ (10 ∷ []) ≡ string-bytes (c .args .text .now) ++ fieldsToCome (c .args .pairs)
+    = ap (λ x. string-bytes (c .loop-pair .text) ++ x) (sym rest) ∙ c .loop-pair .inv .0 ∙ ap (λ s. string-bytes (c .args .text .now) ++ fieldsToCome s) (c .into-iter-pair-iterator .ensures .becomes) in
     made-push (c .push .result) _ _ _ _ (c .push .ensures .bytes) all
