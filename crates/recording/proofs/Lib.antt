@@ -1,3 +1,4 @@
+pub mod Settings
 pub mod PairFields
 pub mod Outcomes
 pub mod Steps
