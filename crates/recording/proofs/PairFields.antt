@@ -11,8 +11,8 @@ use Rattle.std.proofs.shelf.Tests.{and-parts, and-cases, leb-true, leb-false, l
 use Rattle.std.specs.declared.option.Option.the-variants.{Some, None}
 use Rattle.wire.specs.declared.settings.Setting.{Setting}
 use Rattle.wire.specs.declared.settings.Pairs.{Pairs}
-use Rattle.wire.specs.Settings.{settingAt, more, Next}
-use Rattle.recording.specs.Lines.{settingsFrom, further, pairField, pairFields}
+use Rattle.wire.specs.Settings.{settingAt, settingsFrom, more, Next}
+use Rattle.recording.specs.Lines.{further, pairField, pairFields}
 
 -- with six octets left, the first pair comes before the others
 pairs-more : (o : List ℕ) (at : ℕ) → 6 ≤ length o → pairFields o at ≡ pairField (settingAt o at) ∷ pairFields (drop 6 o) (at + 6)

@@ -1,10 +1,10 @@
 -- The lines of a listing: what a line says of a frame, and the octets of its text.
 use mathlib.Core.Bool.{Bool, true, false, cond}
 use mathlib.Core.List.{List, [], _∷_, _++_, map}
-use Prim.Native.Nat.{ℕ, zero, suc, _+_, _/_, _<_}
+use Prim.Native.Nat.{ℕ, _+_, _<_}
 use lib.Chars.{codes}
 use lib.Dec.{eqb}
-use lib.ListN.{length, drop}
+use lib.ListN.{length}
 use Rattle.std.specs.declared.result.Result.{Result}
 use Rattle.std.specs.declared.result.Result.the-variants.{Ok, Err}
 use Rattle.std.specs.Options.{okOr}
@@ -15,7 +15,7 @@ use Rattle.wire.specs.declared.settings.Setting.{Setting}
 use Rattle.wire.specs.Frames.{Told, settings, settingsAck, windowUpdate, resetStream, priorityUpdate, other, frameOf}
 use Rattle.wire.specs.DataFrames.{ToldData, dataOf}
 use Rattle.wire.specs.Faults.{unreadablePriority}
-use Rattle.wire.specs.Settings.{settingAt}
+use Rattle.wire.specs.Settings.{settingsOf}
 use Rattle.wire.specs.Urgencies.{urgencyNumber}
 use Rattle.wire.specs.Values.{valueOf}
 use Rattle.recording.specs.declared.lines.Line.{Line}
@@ -31,15 +31,6 @@ pub data Said : Type 0 where
   payload : ℕ → ℕ → Bool → Said
   frame : ℕ → ℕ → Said
   refused : Fault → Said
-
--- so many settings, from octets that stand at a place of their frame
-abbrev pub settingsFrom : ℕ → List ℕ → ℕ → List Setting
-settingsFrom zero o at = []
-settingsFrom (suc n) o at = settingAt o at ∷ settingsFrom n (drop 6 o) (at + 6)
-
--- the settings of a frame, six octets each
-abbrev pub settingsOf : List ℕ → ℕ → List Setting
-settingsOf o at = settingsFrom (length o / 6) o at
 
 -- what is said of a PRIORITY_UPDATE frame for a target
 abbrev pub saidPriority : ℕ → Result Priority Fault → Said

@@ -1,8 +1,8 @@
 -- The pairs of a SETTINGS frame: RFC 9113, section 6.5.1.
 use mathlib.Core.Path.{_≡_}
 use mathlib.Core.Bool.{Bool, true, false, _&&_}
-use mathlib.Core.List.{List}
-use Prim.Native.Nat.{ℕ, _+_}
+use mathlib.Core.List.{List, [], _∷_}
+use Prim.Native.Nat.{ℕ, zero, suc, _+_, _/_}
 use lib.Dec.{leb, ltb}
 use lib.ListN.{length, drop}
 use Rattle.std.specs.declared.option.Option.{Option}
@@ -14,6 +14,15 @@ use Rattle.wire.specs.Frames.{field}
 -- the pair at the front of octets that stand at a place of the frame: two octets of identifier, four of value
 abbrev pub settingAt : List ℕ → ℕ → Setting
 settingAt o at = record { identifier = field o 0 2; value = field o 2 4; place = at + 2 }
+
+-- so many settings, from octets that stand at a place of their frame
+abbrev pub settingsFrom : ℕ → List ℕ → ℕ → List Setting
+settingsFrom zero o at = []
+settingsFrom (suc n) o at = settingAt o at ∷ settingsFrom n (drop 6 o) (at + 6)
+
+-- the settings of a frame, six octets each
+abbrev pub settingsOf : List ℕ → ℕ → List Setting
+settingsOf o at = settingsFrom (length o / 6) o at
 
 -- another pair is to come: six octets are left, and their end has a place of 32 bits
 abbrev pub more : Pairs → Bool
