@@ -1,0 +1,5 @@
+pub mod Credit
+pub mod Calls
+pub mod Gates
+pub mod Transfers
+pub mod Worked
