@@ -1,0 +1,3 @@
+pub mod Accounts
+pub mod Storages
+pub mod Books
