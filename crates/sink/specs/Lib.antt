@@ -1,0 +1,4 @@
+pub mod Meaning
+pub mod Tallies
+pub mod Puts
+pub mod Memory
