@@ -1,0 +1,3 @@
+// Both sinks at their edges, as tables.
+#[cfg(test)]
+mod puts;
