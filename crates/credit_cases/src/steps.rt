@@ -22,7 +22,7 @@ pub enum Call {
 }
 
 // Whether a gate accepts a call.
-pub fn answer<G: Gate>(gate: &mut G, call: Call) -> bool {
+pub(crate) fn answer<G: Gate>(gate: &mut G, call: Call) -> bool {
     match call {
         Call::Begin(id) => gate.begin(id),
         Call::Finish(id) => gate.finish(id),
@@ -46,7 +46,7 @@ pub struct State {
     pub limit: u32,
 }
 
-pub fn told<G: Gate>(gate: &G, stream: u32) -> State {
+pub(crate) fn told<G: Gate>(gate: &G, stream: u32) -> State {
     State {
         window: gate.window(stream),
         held: gate.held(stream),
@@ -74,7 +74,7 @@ pub struct Step {
 
 impl Step {
     // A call that is refused after this one, so that nothing moves.
-    pub fn refused(self, call: Call) -> Step {
+    pub(crate) fn refused(self, call: Call) -> Step {
         Step {
             call,
             accepted: false,
@@ -83,7 +83,7 @@ impl Step {
     }
 
     // A call that is accepted after this one and moves nothing that is looked at.
-    pub fn accepted(self, call: Call) -> Step {
+    pub(crate) fn accepted(self, call: Call) -> Step {
         Step {
             call,
             accepted: true,
@@ -145,7 +145,7 @@ fn expected(before: State, step: Step) -> State {
     }
 }
 
-pub fn run_step<G: Gate>(gate: &mut G, step: Step) -> Result<(), Fail> {
+pub(crate) fn run_step<G: Gate>(gate: &mut G, step: Step) -> Result<(), Fail> {
     let before = told(gate, step.stream);
     check_eq(answer(gate, step.call), step.accepted).note(format_args!("{step:?}"))?;
     let after = told(gate, step.stream);
@@ -154,7 +154,7 @@ pub fn run_step<G: Gate>(gate: &mut G, step: Step) -> Result<(), Fail> {
 }
 
 // Runs the steps in order.
-pub fn run<G: Gate>(gate: &mut G, steps: &[Step]) -> Result<(), Fail> {
+pub(crate) fn run<G: Gate>(gate: &mut G, steps: &[Step]) -> Result<(), Fail> {
     for step in steps {
         run_step(gate, *step)?;
     }
@@ -162,7 +162,7 @@ pub fn run<G: Gate>(gate: &mut G, steps: &[Step]) -> Result<(), Fail> {
 }
 
 // Runs the steps on a fresh gate of each kind under a cap.
-pub fn run_capped(heap: Global, most: u32, steps: &[Step]) -> Result<(), Fail> {
+pub(crate) fn run_capped(heap: Global, most: u32, steps: &[Step]) -> Result<(), Fail> {
     let mut direct = Cap::over(DirectWindows::new(heap)?, most);
     run(&mut direct, steps).note("on a cap over direct windows")?;
     let mut offset = Cap::over(OffsetWindows::new(heap)?, most);
@@ -170,7 +170,12 @@ pub fn run_capped(heap: Global, most: u32, steps: &[Step]) -> Result<(), Fail> {
 }
 
 // Runs the steps on a fresh gate of each kind under two caps.
-pub fn run_capped_twice(heap: Global, inner: u32, outer: u32, steps: &[Step]) -> Result<(), Fail> {
+pub(crate) fn run_capped_twice(
+    heap: Global,
+    inner: u32,
+    outer: u32,
+    steps: &[Step],
+) -> Result<(), Fail> {
     let mut direct = Cap::over(Cap::over(DirectWindows::new(heap)?, inner), outer);
     run(&mut direct, steps).note("on two caps over direct windows")?;
     let mut offset = Cap::over(Cap::over(OffsetWindows::new(heap)?, inner), outer);
@@ -178,7 +183,7 @@ pub fn run_capped_twice(heap: Global, inner: u32, outer: u32, steps: &[Step]) ->
 }
 
 // Runs the steps on a fresh gate of each kind, bare and under caps that no room reaches.
-pub fn run_on_all(heap: Global, steps: &[Step]) -> Result<(), Fail> {
+pub(crate) fn run_on_all(heap: Global, steps: &[Step]) -> Result<(), Fail> {
     let mut direct = DirectWindows::new(heap)?;
     run(&mut direct, steps).note("on direct windows")?;
     let mut offset = OffsetWindows::new(heap)?;
