@@ -29,7 +29,8 @@ impl<'a> ByteSink<'a> {
     // A sink over at most the first 65,536 octets of a memory.
     pub fn new(memory: &'a mut [u8]) -> ByteSink<'a>
         ensures means { λ r. ⌜ meaningOf (r .tally) (min 65536 (length (now (r .memory)))) ≡ fresh (min 65536 (length (now (memory .entry)))) ⌝ }
-        ensures valid { λ r. ⌜ usedBy (r .tally) ≡ 0 ⌝ }
+        ensures valid { λ r. ⌜ usedBy (r .tally) ≤ min 65536 (length (now (r .memory))) ⌝ }
+        ensures unused { λ r. ⌜ usedBy (r .tally) ≡ 0 ⌝ }
         ensures memory { λ r. ⌜ now (r .memory) ≡ now (memory .entry) ⌝ }
         ensures lender { λ r. ⌜ name (r .memory) ≡ name (memory .entry) ⌝ }
     {

@@ -19,7 +19,8 @@ pub struct CountingSink {
 impl CountingSink {
     // A sink of a given space.
     pub fn new(space: u32) -> CountingSink
-        ensures { λ r. ⌜ (meaningOf (r .tally) (r .limit) ≡ fresh space) × (usedBy (r .tally) ≤ r .limit) ⌝ }
+        ensures means { λ r. ⌜ meaningOf (r .tally) (r .limit) ≡ fresh space ⌝ }
+        ensures valid { λ r. ⌜ (usedBy (r .tally) ≤ r .limit) × (r .limit ≤ 4294967295) ⌝ }
     {
         CountingSink {
             limit: space,
