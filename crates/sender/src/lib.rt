@@ -1,4 +1,5 @@
 // The sending half of one connection, written once above any gate and any policy.
+#![tactic(auto)]
 pub mod connections;
 pub mod streams;
 

@@ -1,3 +1,4 @@
 // Both sinks at their edges, as tables.
+#![tactic(auto)]
 #[cfg(test)]
 mod puts;

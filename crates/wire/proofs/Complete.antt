@@ -1,15 +1,15 @@
 -- Whatever the grammar derives is read.
-use Rattle.std.proofs.Common.{◌≡◌, ℕ, zero, suc, ◌+◌, ◌<◌, ◌≤◌, Bool, true, false, cond, ◌&&◌, ◌||◌, eqb, leb, ◌⊎◌, List, [], ◌∷◌, ◌++◌, length, get_or, take, drop, pos, neg_ℤ, Some, None, Option, sym, refl, ap, ◌∙◌, subst, inl, inr, ⊎_elim, append_assoc, append-nil, one-add, arith, length-append}
+use Rattle.std.proofs.Common.{◌≡◌, ℕ, zero, suc, ◌<◌, ◌≤◌, Bool, true, false, cond, ◌&&◌, eqb, leb, ◌⊎◌, List, [], ◌∷◌, ◌++◌, length, get_or, take, drop, Some, Option, sym, refl, ap, ◌∙◌, subst, inl, inr, ⊎_elim, append_assoc, append-nil, one-add, arith, length-append}
 use Rattle.std.specs.List.{prefix_len}
 use Rattle.std.proofs.lemmas.Bool.{cond-true, cond-false, eqb-true, ne_eqb, leb-true, le-leb, and_parts, and_from, or_cases}
 use Rattle.std.proofs.lemmas.Bool.Decides.{nat_tests}
 use Rattle.std.proofs.lemmas.List.{take_at, drop_at}
 use Rattle.wire.specs.declared.priorities.values.Class.TheVariants.{Space, Blank}
 use Rattle.wire.specs.declared.priorities.Item.{Item}
-use Rattle.wire.specs.declared.priorities.Item.TheVariants.{Boolean, Integer}
+use Rattle.wire.specs.declared.priorities.Item.TheVariants.{Integer}
 use Rattle.wire.specs.declared.priorities.Latest.{Latest}
-use Rattle.wire.specs.Grammar.{is_space, is_blank, is_digit, starts_key, goes_on_key, Each, Key, key, Digits, decimal_of, Spells, off, on, plus, minus, Member, OneMember, bare, full, Members, last, more, Value, empty, some}
-use Rattle.wire.specs.Values.{past, Front, and_then, key_length, key_at, signed, digit_count, integer_at, boolean_at, item_at, absent, noted, after_key, member_at, go_on, members_of, latest_in}
+use Rattle.wire.specs.Grammar.{is_space, is_blank, is_digit, goes_on_key, Each, Key, key, Digits, decimal_of, Spells, off, on, plus, minus, Member, OneMember, bare, full, Members, last, more, Value, empty, some}
+use Rattle.wire.specs.Values.{past, and_then, key_length, key_at, signed, digit_count, integer_at, boolean_at, item_at, absent, noted, after_key, member_at, go_on, members_of, latest_in}
 use Rattle.wire.proofs.Meanings.{gathered}
 use Rattle.wire.proofs.MemberSteps.{one-read}
 

@@ -1,5 +1,5 @@
 -- Members gathered one after the other are the latest of each key.
-use Rattle.std.proofs.Common.{◌≡◌, List, [], ◌∷◌, refl, ◌∙◌}
+use Rattle.std.proofs.Common.{◌≡◌, List, [], ◌∷◌, refl}
 use Rattle.wire.specs.declared.priorities.Latest.{Latest}
 use Rattle.wire.specs.Grammar.{Member, latest_after, latest_of}
 use Rattle.wire.specs.Values.{absent, noted}

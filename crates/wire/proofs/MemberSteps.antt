@@ -1,5 +1,5 @@
 -- The steps of reading members: what comes of a value where its first member is unreadable, the last, not followed by a comma, or followed by one.
-use Rattle.std.proofs.Common.{◌≡◌, ℕ, zero, suc, ◌<◌, ◌≤◌, cond, eqb, List, length, get_or, drop, Some, None, Option, sym, refl, ap, ◌∙◌, arith}
+use Rattle.std.proofs.Common.{◌≡◌, ℕ, zero, suc, ◌<◌, ◌≤◌, List, length, get_or, drop, Some, None, Option, sym, refl, ap, ◌∙◌, arith}
 use Rattle.std.proofs.lemmas.Bool.{cond-true, cond-false, eq-eqb, ne_eqb}
 use Rattle.wire.specs.declared.priorities.values.Class.TheVariants.{Blank}
 use Rattle.wire.specs.declared.priorities.Latest.{Latest}

@@ -1,5 +1,5 @@
 -- Numbers and their octets: the law of every width, and the step of writing one octet more.
-use Rattle.std.proofs.Common.{◌≡◌, ℕ, zero, suc, ◌+◌, ◌*◌, ◌/◌, ◌%◌, ◌^◌, ◌<◌, List, [], ◌∷◌, ◌++◌, length, take, drop, set, sym, refl, ap, ◌∙◌, add_assoc, mod-eq_of_lt, mul_assoc, mul_comm, add-mul, pow-suc, add-one, arith}
+use Rattle.std.proofs.Common.{◌≡◌, ℕ, zero, suc, ◌+◌, ◌*◌, ◌/◌, ◌%◌, ◌^◌, ◌<◌, List, ◌∷◌, length, drop, set, sym, ap, ◌∙◌, mod-eq_of_lt, mul_assoc, add-mul, pow-suc, arith}
 use native.Mathlib.Nat.{pow-succ', div-div-eq-div-mul}
 use lib.Arith.{mod-mul}
 use Rattle.std.proofs.lemmas.List.{drop-set}

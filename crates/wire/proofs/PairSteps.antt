@@ -3,7 +3,7 @@ use Rattle.std.proofs.Common.{◌≡◌, ℕ, suc, ◌+◌, ◌-◌, ◌/◌, �
 use Rattle.std.proofs.lemmas.Bool.{and_parts, and_cases, leb-true, leb-false, ltb-false}
 use Rattle.std.proofs.lemmas.Bool.Decides.{nat_tests}
 use Rattle.wire.specs.Frames.{Told, settings, header_of, body_of, behind, frame_of}
-use Rattle.wire.specs.Settings.{setting_at, settings_from, settings_of, more, Next, Ending, to_come}
+use Rattle.wire.specs.Settings.{setting_at, settings_from, settings_of, Next, Ending, to_come}
 use Rattle.wire.specs.declared.faults.Fault.{Fault}
 use Rattle.wire.specs.declared.headers.Header.{Header}
 use Rattle.wire.specs.declared.settings.Pairs.{Pairs}

@@ -1,12 +1,12 @@
 -- What is written is read as it was meant.
-use Rattle.std.proofs.Common.{◌≡◌, ℕ, ◌+◌, ◌%◌, ◌^◌, ◌<◌, ◌≤◌, Bool, true, false, cond, not, eqb, ltb, List, [], ◌∷◌, ◌++◌, length, get_or, take, drop, Ok, Err, sym, refl, ap, ◌∙◌, subst, mod-eq_of_lt, arith, length-append}
+use Rattle.std.proofs.Common.{◌≡◌, ℕ, ◌+◌, ◌^◌, ◌<◌, Bool, true, false, cond, not, eqb, ltb, List, ◌++◌, length, Ok, refl, ap, ◌∙◌, mod-eq_of_lt, arith}
 use lib.Bits.{bit_and}
 use Rattle.std.proofs.lemmas.Bool.{le-ltb, eq-eqb}
 use Rattle.wire.specs.declared.headers.Header.{Header}
-use Rattle.wire.specs.Numbers.{number_of, octets_of, without_top_bit}
+use Rattle.wire.specs.Numbers.{without_top_bit}
 use Rattle.wire.specs.Faults.{not_whole}
 use Rattle.wire.specs.Frames.{field, refuse, behind, header_of, header_octets, lowest_flag}
-use Rattle.wire.specs.DataFrames.{ToldData, data_of, encoded}
+use Rattle.wire.specs.DataFrames.{data_of, encoded}
 use Rattle.wire.proofs.Octets.{number-octets}
 
 -- a header that is written before a payload of its length is read as it was meant, but for the reserved bit

@@ -2,7 +2,6 @@
 use Rattle.std.specs.Prelude.{◌≡◌, ℕ, ◌+◌, Bool, cond, not, ◌&&◌, List, ◌++◌, length, take, drop, Some, None, Ok, Err, Option, Result, ◌==◌, nat_le}
 use Rattle.wire.specs.declared.data_frames.Data.{Data}
 use Rattle.wire.specs.declared.faults.Fault.{Fault}
-use Rattle.wire.specs.declared.headers.Header.{Header}
 use Rattle.wire.specs.Faults.{not_whole}
 use Rattle.wire.specs.Frames.{refuse, behind, header_of, header_octets, lowest_flag}
 

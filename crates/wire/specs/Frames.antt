@@ -1,5 +1,5 @@
 -- What the octets of a frame say: RFC 9113, sections 4.1, 6.4, 6.5 and 6.9, and RFC 9218, section 7.1.
-use Rattle.std.specs.Prelude.{◌≡◌, ℕ, ◌+◌, ◌%◌, ◌≤◌, min, Bool, true, false, cond, not, List, ◌∷◌, ◌++◌, length, take, drop, Ok, Err, Result, ◌==◌, bit_and, nat_lt, slice_index}
+use Rattle.std.specs.Prelude.{◌≡◌, ℕ, ◌+◌, ◌%◌, min, Bool, cond, not, List, ◌∷◌, ◌++◌, length, take, drop, Ok, Err, Result, ◌==◌, bit_and, nat_lt, slice_index}
 use Rattle.wire.specs.declared.faults.Fault.{Fault}
 use Rattle.wire.specs.declared.headers.Header.{Header}
 use Rattle.wire.specs.declared.frames.Frame.{Frame}

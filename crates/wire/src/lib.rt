@@ -1,4 +1,6 @@
 // HTTP/2 frames, settings, priority values and DATA: octets read, and octets written.
+#![tactic(auto)]
+
 pub mod data_frames;
 pub mod faults;
 pub mod frames;

@@ -7,7 +7,7 @@ use Rattle.recording.proofs.texts.append_pairs.Goals as goal
 pub loop-pair-preserved : goal.loop-pair-preserved
 loop-pair-preserved c =
     pair-written c.loop-pair.pair-iterator c.next.new.self c.in-Some.pair _ _ _ c.in-Some.ensures.steps c.loop-pair.invariant.1
-    c.loop-pair.invariant.0 (made_ok c.write.result _ (sym c.in-ok-written.ensures) c.write.ensures.bytes)
+    c.loop-pair.invariant.0 (made_ok c.write.result _ (sym c.in_ok-written.ensures) c.write.ensures.bytes)
 
 pub returns : goal.returns
 unfolding encode

@@ -7,4 +7,4 @@ pub returns : goal.returns
 returns c =
     made-behind c.append-pairs.result (string_bytes c.args.text.now) (decimal c.args.index) (codes " settings") (fields_to_come c.args.pairs)
     (string_bytes c.write.new.self) _
-    (made_ok c.write.result _ (sym c.in-ok-written.ensures) c.write.ensures.bytes) c.append-pairs.ensures
+    (made_ok c.write.result _ (sym c.in_ok-written.ensures) c.write.ensures.bytes) c.append-pairs.ensures

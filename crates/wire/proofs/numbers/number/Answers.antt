@@ -1,4 +1,4 @@
-use Rattle.std.proofs.Common.{◌≡◌, ℕ, ◌+◌, ◌*◌, ◌^◌, ◌<◌, ◌≤◌, length, get_or, drop, sym, ap, ◌∙◌, pow-suc, add-one, arith, rules}
+use Rattle.std.proofs.Common.{◌≡◌, ℕ, ◌+◌, ◌*◌, ◌^◌, ◌<◌, ◌≤◌, sym, ◌∙◌, pow-suc, add-one, arith, rules}
 use native.Mathlib.Nat.{pow-le-pow_right}
 use Rattle.std.proofs.lemmas.List.{at_drop_more, at_drop_all}
 use Rattle.wire.specs.Numbers.{number_after}
@@ -10,11 +10,11 @@ next i = rw (add-one, pow-suc)
 small : (i : ℕ) → i < 4 → 256 ^ i ≤ 256 ^ 3
 small i h = pow-le-pow_right {n = 256} (omega arith) {i = i} {j = 3} (omega arith)
 
-pub overflow-mul-n : goal.overflow-mul-n
-overflow-mul-n c = let s = small c.loop-octet.octet-index (omega arith) in omega arith
+pub overflow_mul-n : goal.overflow_mul-n
+overflow_mul-n c = let s = small c.loop-octet.octet-index (omega arith) in omega arith
 
-pub overflow-add-n : goal.overflow-add-n
-overflow-add-n c = let s = small c.loop-octet.octet-index (omega arith) in omega arith
+pub overflow_add-n : goal.overflow_add-n
+overflow_add-n c = let s = small c.loop-octet.octet-index (omega arith) in omega arith
 
 pub loop-octet-preserved : goal.loop-octet-preserved
 loop-octet-preserved c =

@@ -3,10 +3,10 @@ use Rattle.wire.specs.Values.{value_of}
 use Rattle.wire.proofs.Readings.{reads}
 use Rattle.wire.proofs.priorities.read_priority.Goals as goal
 
-pub returns-in-err-latest : goal.returns-in-err-latest
-returns-in-err-latest c =
-    let value : c.from-residual.result ≡ value_of c.args.value.now = search rules in
-    record { value = value; grammar = reads c.args.value.now c.from-residual.result value }
+pub returns-in_err-latest : goal.returns-in_err-latest
+returns-in_err-latest c =
+    let value : c.from_residual.result ≡ value_of c.args.value.now = search rules in
+    record { value = value; grammar = reads c.args.value.now c.from_residual.result value }
 
 pub returns : goal.returns
 returns c =

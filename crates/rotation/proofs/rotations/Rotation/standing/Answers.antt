@@ -4,12 +4,12 @@ use Rattle.rotation.specs.Orders.{id_of}
 use Rattle.rotation.specs.Places.{standing-absent, standing-found}
 use Rattle.rotation.proofs.rotations.Rotation.standing.Goals as goal
 
-pub returns-in-err-place : goal.returns-in-err-place
-returns-in-err-place g c = c.from-residual.ensures ∙ sym (standing-absent g.R.Rule.stands (vec_items c.args.self.now.table.rows) c.args.id c.in-err-place.ensures)
+pub returns-in_err-place : goal.returns-in_err-place
+returns-in_err-place g c = c.from_residual.ensures ∙ sym (standing-absent g.R.Rule.stands (vec_items c.args.self.now.table.rows) c.args.id c.in_err-place.ensures)
 
 pub index-requires : goal.index-requires
-index-requires g c = omega (arith, found_within id_of (vec_items c.args.self.now.table.rows) c.args.id c.in-ok-place.place c.in-ok-place.ensures, c.args.self.now.table.rows.ok.0)
+index-requires g c = omega (arith, found_within id_of (vec_items c.args.self.now.table.rows) c.args.id c.in_ok-place.place c.in_ok-place.ensures, c.args.self.now.table.rows.ok.0)
 
 pub returns : goal.returns
 returns g c =
-    ap (λ s. Some s) c.standing.ensures ∙ standing-found g.R.Rule.stands (vec_items c.args.self.now.table.rows) c.args.id c.in-ok-place.place c.index.result.now c.in-ok-place.ensures c.index.ensures
+    ap (λ s. Some s) c.standing.ensures ∙ standing-found g.R.Rule.stands (vec_items c.args.self.now.table.rows) c.args.id c.in_ok-place.place c.index.result.now c.in_ok-place.ensures c.index.ensures

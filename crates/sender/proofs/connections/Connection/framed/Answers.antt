@@ -7,18 +7,18 @@ use Rattle.sender.specs.Connections.{state_of}
 use Rattle.sender.proofs.Endings.{ended_is, final-state}
 use Rattle.sender.proofs.connections.Connection.framed.Goals as goal
 
-pub returns-in-err-alive : goal.returns-in-err-alive
-returns-in-err-alive g c =
-    let p = err_from_is_err_and c.from-residual.result c.from-residual.ensures.1 in
-    let a = c.in-err-alive.ensures in
+pub returns-in_err-alive : goal.returns-in_err-alive
+returns-in_err-alive g c =
+    let p = err_from_is_err_and c.from_residual.result c.from_residual.ensures.1 in
+    let a = c.in_err-alive.ensures in
     rw (p.1, p.2, a.1) (λ k valid tied meant. (dead a.0, refl, valid))
 
 pub returns-then-ends-connection : goal.returns-then-ends-connection
 returns-then-ends-connection g c k valid tied meant =
-    let h = c.received-answer.ensures k c.in-ok-alive.ensures valid tied meant in
+    let h = c.received-answer.ensures k c.in_ok-alive.ensures valid tied meant in
     (h.0, final-state (state_of g.G.Gate.meaning g.P.Policy.ranks c.args.self.now k) (state_of g.G.Gate.meaning g.P.Policy.ranks c.received-answer.new.self k) (happened (frame c.args.octets.now) c.received-answer.result) _ (ended_is c.args.octets.now c.received-answer.result ∙ sym c.ends-connection.ensures ∙ c.if-ends-connection.true) h.1, h.2)
 
 pub returns-else-ends-connection : goal.returns-else-ends-connection
 returns-else-ends-connection g c k valid tied meant =
-    let h = c.received-answer.ensures k c.in-ok-alive.ensures valid tied meant in
+    let h = c.received-answer.ensures k c.in_ok-alive.ensures valid tied meant in
     (h.0, final-state (state_of g.G.Gate.meaning g.P.Policy.ranks c.args.self.now k) (state_of g.G.Gate.meaning g.P.Policy.ranks c.received-answer.new.self k) (happened (frame c.args.octets.now) c.received-answer.result) _ (ended_is c.args.octets.now c.received-answer.result ∙ sym c.ends-connection.ensures ∙ c.if-ends-connection.false) h.1, h.2)

@@ -10,14 +10,14 @@ use Rattle.sender.specs.Streams.{id_of, plain}
 use Rattle.model.specs.Rules.{dead, offers, not_open}
 use Rattle.sender.proofs.connections.Connection.offered.Goals as goal
 
-pub returns-in-err-alive : goal.returns-in-err-alive
-returns-in-err-alive g c =
-    let p = err_from_is_err_and c.from-residual.result c.from-residual.ensures.1 in
-    let a = c.in-err-alive.ensures in
+pub returns-in_err-alive : goal.returns-in_err-alive
+returns-in_err-alive g c =
+    let p = err_from_is_err_and c.from_residual.result c.from_residual.ensures.1 in
+    let a = c.in_err-alive.ensures in
     rw (p.1, p.2, a.1) (λ k valid tied meant. (dead a.0, refl, valid))
 
 pub returns-in-None : goal.returns-in-None
-returns-in-None g c = rw c.refusal.ensures (λ k valid tied meant. (offers c.in-ok-alive.ensures (not_open (ap (option_map plain) (record-absent id_of (vec_items c.args.self.now.streams.rows) c.args.id c.in-None.ensures.finds))), refl, valid))
+returns-in-None g c = rw c.refusal.ensures (λ k valid tied meant. (offers c.in_ok-alive.ensures (not_open (ap (option_map plain) (record-absent id_of (vec_items c.args.self.now.streams.rows) c.args.id c.in-None.ensures.finds))), refl, valid))
 
 pub invariant-of-self-in-Some : goal.invariant-of-self-in-Some
 invariant-of-self-in-Some g c =
@@ -30,4 +30,4 @@ pub returns-in-Some : goal.returns-in-Some
 returns-in-Some g c k valid tied meant =
     let s = c.args.self.now in
     let b = offers-state (state_of g.G.Gate.meaning g.P.Policy.ranks s k) (vec_items s.streams.rows) refl refl c.args.id c.in-Some.stream.now c.in-Some.ensures.finds c.args.octets c.args.end c.offer.result c.offer.new.self c.offer.ensures in
-    (offers c.in-ok-alive.ensures b.0, b.1, valid)
+    (offers c.in_ok-alive.ensures b.0, b.1, valid)

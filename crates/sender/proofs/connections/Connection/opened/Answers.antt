@@ -6,35 +6,35 @@ use Rattle.model.specs.Rules.{Full, dead, opens, bad_id, full, opened}
 use Rattle.sender.proofs.Rows.{ordered-wider}
 use Rattle.sender.proofs.connections.Connection.opened.Goals as goal
 
-pub returns-in-err-alive : goal.returns-in-err-alive
-returns-in-err-alive g c =
-    let p = err_from_is_err_and c.from-residual.result c.from-residual.ensures.1 in
-    let a = c.in-err-alive.ensures in
+pub returns-in_err-alive : goal.returns-in_err-alive
+returns-in_err-alive g c =
+    let p = err_from_is_err_and c.from_residual.result c.from_residual.ensures.1 in
+    let a = c.in_err-alive.ensures in
     rw (p.1, p.2, a.1) (λ k valid tied meant. (dead a.0, refl, valid))
 
-pub returns-in-err-openable : goal.returns-in-err-openable
-returns-in-err-openable g c =
-    let p = err_from_is_err_and c.from-residual-in-err-openable.result c.from-residual-in-err-openable.ensures.1 in
-    let a = c.in-err-openable.ensures in
-    rw (p.1, p.2, a.1) (λ k valid tied meant. (opens c.in-ok-alive.ensures (bad_id a.0), refl, valid))
+pub returns-in_err-openable : goal.returns-in_err-openable
+returns-in_err-openable g c =
+    let p = err_from_is_err_and c.from_residual-in_err-openable.result c.from_residual-in_err-openable.ensures.1 in
+    let a = c.in_err-openable.ensures in
+    rw (p.1, p.2, a.1) (λ k valid tied meant. (opens c.in_ok-alive.ensures (bad_id a.0), refl, valid))
 
 pub invariant-of-self : goal.invariant-of-self
 invariant-of-self g c =
     let s = c.args.self.now in
-    let a = c.in-ok-openable.ensures in
+    let a = c.in_ok-openable.ensures in
     (s.few, (ordered-wider 0 0 s.highest c.args.id (vec_items s.streams.rows) (omega arith) (omega arith) s.order, tt))
 
 pub returns-then-full : goal.returns-then-full
 returns-then-full g c =
-    let a = c.in-ok-openable.ensures in
-    rw c.refusal.ensures (λ k valid tied meant. (opens c.in-ok-alive.ensures (full (record { odd = a.0; fits = a.1; above = a.2 }) ((c.full.ensures k valid.0 valid.1).0 c.if-full.true)), refl, valid))
+    let a = c.in_ok-openable.ensures in
+    rw c.refusal.ensures (λ k valid tied meant. (opens c.in_ok-alive.ensures (full (record { odd = a.0; fits = a.1; above = a.2 }) ((c.full.ensures k valid.0 valid.1).0 c.if-full.true)), refl, valid))
 
 pub begin-requires : goal.begin-requires
-begin-requires g c = c.in-ok-openable.ensures.2
+begin-requires g c = c.in_ok-openable.ensures.2
 
 pub returns : goal.returns
 returns g c k valid tied meant =
-    let a = c.in-ok-openable.ensures in
+    let a = c.in_ok-openable.ensures in
     let unfull : Full (state_of g.G.Gate.meaning g.P.Policy.ranks c.args.self.now k) → ⊥ = λ h. true≢false (sym ((c.full.ensures k valid.0 valid.1).1 h) ∙ c.if-full.false) in
     let b = c.begin.ensures k valid.0 valid.1 tied unfull in
-    (rw c.first-priority-priority.ensures (opens c.in-ok-alive.ensures (opened (record { odd = a.0; fits = a.1; above = a.2 }) unfull)), b.0, (b.1, b.2))
+    (rw c.first-priority-priority.ensures (opens c.in_ok-alive.ensures (opened (record { odd = a.0; fits = a.1; above = a.2 }) unfull)), b.0, (b.1, b.2))

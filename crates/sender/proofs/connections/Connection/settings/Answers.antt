@@ -10,12 +10,12 @@ use Rattle.sender.specs.Connections.{state_of, moment_of}
 use Rattle.sender.proofs.Initial.{last-accepted, pairs-stay}
 use Rattle.sender.proofs.connections.Connection.settings.Goals as goal
 
-pub returns-in-err-test-pairs : goal.returns-in-err-test-pairs
-returns-in-err-test-pairs g c =
-    let p = err_from_is_err_and c.from-residual.result c.from-residual.ensures.1 in
+pub returns-in_err-test-pairs : goal.returns-in_err-test-pairs
+returns-in_err-test-pairs g c =
+    let p = err_from_is_err_and c.from_residual.result c.from_residual.ensures.1 in
     rw (p.1, p.2)
     (λ k valid tied meant.
-    let refused = c.in-err-test-pairs.ensures k valid.0 tied in
+    let refused = c.in_err-test-pairs.ensures k valid.0 tied in
     (settings_refused refused, sym (pairs-stay _ _ (settings c.args.pairs.octets.now c.args.pairs.place) _ _ refused), valid))
 
 pub returns : goal.returns
@@ -23,7 +23,7 @@ returns g c k valid tied meant =
     let s = c.args.self.now in
     let state : State = state_of g.G.Gate.meaning g.P.Policy.ranks s k in
     let m : Moment = moment_of g.G.Gate.meaning g.G.Gate.free g.P.Policy.ranks g.P.Policy.picks s k in
-    let passes = c.in-ok-test-pairs.ensures k valid.0 tied in
+    let passes = c.in_ok-test-pairs.ensures k valid.0 tied in
     let w = c.last-value-window.ensures in
     let z = c.last-value-size.ensures in
     let b = c.renew.ensures k valid.0 (subst (λ o. IfSome o (λ v. Accepts state.gate m.room (initial v))) (sym w) (last-accepted m (to_come c.args.pairs) passes)) in

@@ -13,16 +13,16 @@ use Rattle.sender.proofs.connections.Connection.test_pairs.Goals as goal
 pub loop-pair-preserved : goal.loop-pair-preserved
 loop-pair-preserved g c =
     let n = c.in-Some.ensures.steps in (
-      (λ k valid tied. carries-more _ (to_come c.loop-pair.pair-iterator) _ _ c.in-Some.pair (next-comes c.loop-pair.pair-iterator c.next.new.self c.in-Some.pair n) (c.in-ok-test-pair.ensures k valid tied) (c.loop-pair.invariant.0 k valid tied)),
+      (λ k valid tied. carries-more _ (to_come c.loop-pair.pair-iterator) _ _ c.in-Some.pair (next-comes c.loop-pair.pair-iterator c.next.new.self c.in-Some.pair n) (c.in_ok-test-pair.ensures k valid tied) (c.loop-pair.invariant.0 k valid tied)),
       next-ends c.loop-pair.pair-iterator c.next.new.self c.in-Some.pair n c.loop-pair.invariant.1,
     )
 
-pub returns-in-err-test-pair : goal.returns-in-err-test-pair
-returns-in-err-test-pair g c =
-    let p = err_from_is_err_and c.from-residual.result c.from-residual.ensures.1 in
+pub returns-in_err-test-pair : goal.returns-in_err-test-pair
+returns-in_err-test-pair g c =
+    let p = err_from_is_err_and c.from_residual.result c.from_residual.ensures.1 in
     let n = c.in-Some.ensures.steps in
     rw (p.1, p.2)
-    (λ k valid tied. subst (λ (s : Pairs). RefusesPairs (moment_of g.G.Gate.meaning g.G.Gate.free g.P.Policy.ranks g.P.Policy.picks c.args.self.now k) (to_come s) c.in-err-test-pair.field-0.0) c.into-iter-pair-iterator.ensures.into-iter-gives (carries-fault _ (to_come c.loop-pair.pair-iterator) _ _ c.in-Some.pair _ (next-comes c.loop-pair.pair-iterator c.next.new.self c.in-Some.pair n) (c.in-err-test-pair.ensures k valid tied) (c.loop-pair.invariant.0 k valid tied)))
+    (λ k valid tied. subst (λ (s : Pairs). RefusesPairs (moment_of g.G.Gate.meaning g.G.Gate.free g.P.Policy.ranks g.P.Policy.picks c.args.self.now k) (to_come s) c.in_err-test-pair.field-0.0) c.into-iter-pair-iterator.ensures.into-iter-gives (carries-fault _ (to_come c.loop-pair.pair-iterator) _ _ c.in-Some.pair _ (next-comes c.loop-pair.pair-iterator c.next.new.self c.in-Some.pair n) (c.in_err-test-pair.ensures k valid tied) (c.loop-pair.invariant.0 k valid tied)))
 
 pub returns : goal.returns
 returns g c k valid tied =

@@ -1,4 +1,4 @@
-use Rattle.std.proofs.Common.{◌≡◌, ◌+◌, ◌-◌, ◌*◌, ◌^◌, ◌<◌, ◌≤◌, length, take, drop}
+use Rattle.std.proofs.Common.{◌≡◌, ◌+◌, ◌-◌, ◌^◌, ◌<◌, ◌≤◌, length, take, drop}
 use Rattle.std.specs.List.{prefix_len}
 use Rattle.wire.specs.Grammar.{is_digit, decimal_of}
 use Rattle.wire.proofs.priorities.values.digits.Given as goal

@@ -5,26 +5,26 @@ use Rattle.wire.proofs.priorities.values.read_members.Goals as goal
 pub loop-latest-init : goal.loop-latest-init
 loop-latest-init c = (length c.args.text.now, omega arith, refl)
 
-pub returns-in-err-latest : goal.returns-in-err-latest
-returns-in-err-latest c =
-    c.from-residual.ensures
+pub returns-in_err-latest : goal.returns-in_err-latest
+returns-in_err-latest c =
+    c.from_residual.ensures
     ∙ none_read c.loop-latest.invariant.0 c.loop-latest.latest c.loop-latest.reader.rest.now (search rules)
     ∙ c.loop-latest.invariant.2
 
 pub returns-then-rest-eq0 : goal.returns-then-rest-eq0
 returns-then-rest-eq0 c =
-    last-read c.loop-latest.invariant.0 c.loop-latest.latest c.in-ok-latest.latest c.loop-latest.reader.rest.now c.member.new.self.rest.now c.skip.new.self.rest.now
-    (omega (arith, c.in-ok-latest.ensures.shorter)) (search rules) (search rules) (omega arith)
+    last-read c.loop-latest.invariant.0 c.loop-latest.latest c.in_ok-latest.latest c.loop-latest.reader.rest.now c.member.new.self.rest.now c.skip.new.self.rest.now
+    (omega (arith, c.in_ok-latest.ensures.shorter)) (search rules) (search rules) (omega arith)
     ∙ c.loop-latest.invariant.2
 
 pub returns-then-rest-ne44 : goal.returns-then-rest-ne44
 returns-then-rest-ne44 c =
-    no-comma c.loop-latest.invariant.0 c.loop-latest.latest c.in-ok-latest.latest c.loop-latest.reader.rest.now c.member.new.self.rest.now c.skip.new.self.rest.now
-    (omega (arith, c.in-ok-latest.ensures.shorter)) (search rules) (search rules) (search rules) (search rules)
+    no-comma c.loop-latest.invariant.0 c.loop-latest.latest c.in_ok-latest.latest c.loop-latest.reader.rest.now c.member.new.self.rest.now c.skip.new.self.rest.now
+    (omega (arith, c.in_ok-latest.ensures.shorter)) (search rules) (search rules) (search rules) (search rules)
     ∙ c.loop-latest.invariant.2
 
 pub loop-latest-preserved : goal.loop-latest-preserved
 loop-latest-preserved c =
-    let more = more-read c.loop-latest.invariant.0 c.loop-latest.latest c.in-ok-latest.latest c.loop-latest.reader.rest.now c.member.new.self.rest.now c.skip.new.self.rest.now c.skip-in-loop-latest.new.self.rest.now
-    (search rules) (search rules) (search rules) (search rules) (search rules) (omega (arith, c.in-ok-latest.ensures.shorter)) in
+    let more = more-read c.loop-latest.invariant.0 c.loop-latest.latest c.in_ok-latest.latest c.loop-latest.reader.rest.now c.member.new.self.rest.now c.skip.new.self.rest.now c.skip-in-loop-latest.new.self.rest.now
+    (search rules) (search rules) (search rules) (search rules) (search rules) (omega (arith, c.in_ok-latest.ensures.shorter)) in
     (more.0, more.1, more.2 ∙ c.loop-latest.invariant.2)

@@ -8,8 +8,8 @@ loop-n-preserved c =
     let t : in_class c.args.class (get_or c.args.text.now c.loop-n.n 0) ≡ true = search rules in
     (omega arith, omega (arith, prefix_len-drop_yes (in_class c.args.class) c.args.text.now c.loop-n.n 0 (omega arith) t))
 
-pub returns-else-is-in : goal.returns-else-is-in
-returns-else-is-in c =
+pub returns-else-is_in : goal.returns-else-is_in
+returns-else-is_in c =
     let t : in_class c.args.class (get_or c.args.text.now c.loop-n.n 0) ≡ false = search rules in
     record { within = omega arith; count = omega (arith, prefix_len-drop_no (in_class c.args.class) c.args.text.now c.loop-n.n 0 (omega arith) t) }
 
