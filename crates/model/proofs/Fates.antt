@@ -1,7 +1,7 @@
 -- Grants over a run: the open ones are what gate and streams hold, and each grant has one fate.
 use Rattle.std.proofs.Common.{◌≡◌, ℕ, ◌+◌, ◌-◌, ◌<◌, ◌≤◌, Bool, true, false, cond, eqb, ◌⊎◌, List, [], ◌∷◌, is_some, Some, None, Option, sym, refl, ap, ◌∙◌, subst, inl, inr, ⊎_elim, arith, MatchOption}
 use Rattle.std.specs.Option.{option_map}
-use Rattle.std.specs.List.{AllByRecursion as All}
+use Rattle.std.specs.List.{AllByRecursion}
 use Rattle.std.specs.Map.{update}
 use Rattle.std.proofs.lemmas.Map.{update_here, update_apart}
 use Rattle.std.proofs.lemmas.Bool.{cases_eq, true≢false}
@@ -36,7 +36,7 @@ fates n es = settled_times n es + voided_times n es + times n (open_grants es)
 pub record Granted (es : Tale) (s : State) : Type 0 where
   pub sum : s.gate.held ≡ total (open_grants es)
   pub holds : (q : ℕ) → held_by (s.gate.stream q) ≡ total_on q (open_grants es)
-  pub matched : All (λ g. opens_at s g.id ≡ Some g.number) (open_grants es)
+  pub matched : AllByRecursion (λ g. opens_at s g.id ≡ Some g.number) (open_grants es)
   pub distinct : (p q n : ℕ) → opens_at s p ≡ Some n → opens_at s q ≡ Some n → p ≡ q
   pub below : (q n : ℕ) → opens_at s q ≡ Some n → (1 ≤ n) × (n ≤ s.given)
   pub most_once : (n : ℕ) → fates n es ≤ 1
@@ -51,7 +51,7 @@ quiet-grants es e s t k same settled voided held holds opens given =
     record {
       sum = held ∙ k.sum ∙ ap total (sym same);
       holds = λ q. holds q ∙ k.holds q ∙ ap (total_on q) (sym same);
-      matched = subst (All (λ g. opens_at t g.id ≡ Some g.number)) (sym same) (all-to _ _ (open_grants es) (λ g h. opens g.id ∙ h) k.matched);
+      matched = subst (AllByRecursion (λ g. opens_at t g.id ≡ Some g.number)) (sym same) (all-to _ _ (open_grants es) (λ g h. opens g.id ∙ h) k.matched);
       distinct = λ p q n a b. k.distinct p q n (sym (opens p) ∙ a) (sym (opens q) ∙ b);
       below = λ q n a. ((k.below q n (sym (opens q) ∙ a)).0, omega (arith, given, (k.below q n (sym (opens q) ∙ a)).1));
       most_once = λ n. omega (arith, fate n, k.most_once n);
@@ -132,7 +132,7 @@ gone-grants es e s t id k same fate held others here opens given =
     record {
       sum = let a : total (open_grants (e ∷ es)) ≡ total (without_stream id gs) = ap total same in omega (arith, held, k.sum, k.holds id, total-without id gs, a);
       holds = λ q. ⊎_elim (λ i. ap (λ j. held_by (t.gate.stream j)) i ∙ here ∙ sym (ap (λ j. total_on j (without_stream id gs)) i ∙ none-on id gs) ∙ ap (total_on q) (sym same)) (λ ne. others q ne ∙ k.holds q ∙ sym (other-on q id gs ne) ∙ ap (total_on q) (sym same)) (cases_eq q id);
-      matched = subst (All (λ y. opens_at t y.id ≡ Some y.number)) (sym same) (all_without _ _ id gs (λ y ne h. opens y.id ∙ update_apart (opens_at s) id None y.id ne ∙ h) k.matched);
+      matched = subst (AllByRecursion (λ y. opens_at t y.id ≡ Some y.number)) (sym same) (all_without _ _ id gs (λ y ne h. opens y.id ∙ update_apart (opens_at s) id None y.id ne ∙ h) k.matched);
       distinct = λ p q n a b. k.distinct p q n (was p n a) (was q n b);
       below = λ q n a. ((k.below q n (was q n a)).0, omega (arith, given, (k.below q n (was q n a)).1));
       most_once = λ n. omega (arith, fate n, k.most_once n);

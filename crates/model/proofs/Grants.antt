@@ -1,7 +1,7 @@
 -- Open grants over a run: what they hold together, and that each grant has one fate.
 use Rattle.std.proofs.Common.{◌≡◌, ℕ, ◌+◌, ◌-◌, ◌<◌, ◌≤◌, Bool, true, false, cond, eqb, ◌⊎◌, List, [], ◌∷◌, is_some, Some, None, Option, sym, refl, ap, ◌∙◌, subst, inl, inr, ⊎_elim, arith, eq-eqb, ne_eqb, MatchOption}
 use Rattle.std.specs.Option.{option_map}
-use Rattle.std.specs.List.{AllByRecursion as All}
+use Rattle.std.specs.List.{AllByRecursion}
 use Rattle.std.specs.Map.{update}
 use Rattle.std.proofs.lemmas.Map.{update_here, update_apart}
 use Rattle.std.proofs.lemmas.Bool.{cases_eq}
@@ -33,7 +33,7 @@ other-on p q (g ∷ gs) n =
     (λ m. let t : eqb q g.id ≡ false = ne_eqb q g.id m in rw t (ap (λ k. on p g.id g.octets + k) (other-on p q gs n)))
     (cases_eq q g.id)
 
-pub all_without : (P Q : Grant → Type 0) (q : ℕ) (gs : List Grant) → ((g : Grant) → (g.id ≡ q → ⊥) → P g → Q g) → All P gs → All Q (without_stream q gs)
+pub all_without : (P Q : Grant → Type 0) (q : ℕ) (gs : List Grant) → ((g : Grant) → (g.id ≡ q → ⊥) → P g → Q g) → AllByRecursion P gs → AllByRecursion Q (without_stream q gs)
 all_without P Q q [] f h = tt
 all_without P Q q (g ∷ gs) f h =
     ⊎_elim
@@ -41,12 +41,12 @@ all_without P Q q (g ∷ gs) f h =
     (λ n. let t : eqb q g.id ≡ false = ne_eqb q g.id n in rw t (f g (λ e. n (sym e)) h.0, all_without P Q q gs f h.1))
     (cases_eq q g.id)
 
-pub all-to : (P Q : Grant → Type 0) (gs : List Grant) → ((g : Grant) → P g → Q g) → All P gs → All Q gs
+pub all-to : (P Q : Grant → Type 0) (gs : List Grant) → ((g : Grant) → P g → Q g) → AllByRecursion P gs → AllByRecursion Q gs
 all-to P Q [] f h = tt
 all-to P Q (g ∷ gs) f h = (f g h.0, all-to P Q gs f h.1)
 
 -- the grant with the number that a stream has open is the only one of the stream
-pub number-stream : (o : ℕ → Option ℕ) (id n : ℕ) (gs : List Grant) → o id ≡ Some n → ((p q k : ℕ) → o p ≡ Some k → o q ≡ Some k → p ≡ q) → All (λ g. o g.id ≡ Some g.number) gs → without_number n gs ≡ without_stream id gs
+pub number-stream : (o : ℕ → Option ℕ) (id n : ℕ) (gs : List Grant) → o id ≡ Some n → ((p q k : ℕ) → o p ≡ Some k → o q ≡ Some k → p ≡ q) → AllByRecursion (λ g. o g.id ≡ Some g.number) gs → without_number n gs ≡ without_stream id gs
 number-stream o id n [] e d h = refl
 number-stream o id n (g ∷ gs) e d h =
     ⊎_elim
@@ -85,7 +85,7 @@ pub times-without : (q n : ℕ) (gs : List Grant) → times n (without_stream q 
 times-without q n [] = omega arith
 times-without q n (g ∷ gs) = elim (eqb q g.id) as (λ b. times n (cond b (without_stream q gs) (g ∷ without_stream q gs)) + (cond b (on g.number n 1) 0 + times_on q n gs) ≡ on g.number n 1 + times n gs) [ true ↦ omega (arith, times-without q n gs) | false ↦ omega (arith, times-without q n gs) ]
 
-pub times_none : (o : ℕ → Option ℕ) (q n : ℕ) (gs : List Grant) → All (λ g. o g.id ≡ Some g.number) gs → (o q ≡ Some n → ⊥) → times_on q n gs ≡ 0
+pub times_none : (o : ℕ → Option ℕ) (q n : ℕ) (gs : List Grant) → AllByRecursion (λ g. o g.id ≡ Some g.number) gs → (o q ≡ Some n → ⊥) → times_on q n gs ≡ 0
 times_none o q n [] h ne = refl
 times_none o q n (g ∷ gs) h ne =
     ⊎_elim

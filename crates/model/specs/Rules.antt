@@ -1,6 +1,6 @@
 -- The rules: which answer comes to a call. RFC 9113, sections 5.1, 6.4, 6.5, 6.9, and RFC 9218, section 7.
 use Rattle.std.specs.Prelude.{◌≡◌, ℕ, ◌+◌, ◌-◌, ◌%◌, ◌<◌, ◌≤◌, min, Bool, true, false, ◌&&◌, ◌⊎◌, List, [], ◌∷◌, length, pos, ◌<ℤ◌, is_some, Some, None, Ok, Err, Option, Result, MatchOption, ◌==◌, ◌≢◌}
-use Rattle.std.specs.List.{AllByRecursion as All}
+use Rattle.std.specs.List.{AllByRecursion}
 use Rattle.wire.specs.Frames.{Told, settings, settings_ack, window_update, reset_stream, priority_update, other, frame_of}
 use Rattle.wire.specs.Settings.{settings_of}
 use Rattle.wire.specs.Values.{value_of}
@@ -49,7 +49,7 @@ Overflows s id v = MatchOption (s.gate.stream id) ⊥ (λ c. pos MAX <ℤ (raise
 pub data AnswersFrame (m : Moment) : Told → Result Bool Fault → Type 0 where
   acknowledged : AnswersFrame m settings_ack (Ok true)
   settings_refused : {o : List ℕ} {at : ℕ} {f : Fault} → RefusesPairs m (settings_of o at) f → AnswersFrame m (settings o at) (Err f)
-  settings_accepted : {o : List ℕ} {at : ℕ} → All (PassesPair m) (settings_of o at) → AnswersFrame m (settings o at) (Ok true)
+  settings_accepted : {o : List ℕ} {at : ℕ} → AllByRecursion (PassesPair m) (settings_of o at) → AnswersFrame m (settings o at) (Ok true)
   window_idle : {id v : ℕ} → IsIdle m.state id → AnswersFrame m (window_update id v) (Err (fault 4 1 0 5))
   window_closed : {id v : ℕ} → IsClosed m.state id → AnswersFrame m (window_update id v) (Ok false)
   window_none_connection : AnswersFrame m (window_update 0 0) (Err (fault 4 1 0 9))

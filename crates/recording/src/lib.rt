@@ -1,5 +1,6 @@
 // The listing of a recording: a line for each frame of its octets, and a last line with the counts.
 #![tactic(auto)]
+
 mod lines;
 mod listings;
 mod printing;

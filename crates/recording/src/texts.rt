@@ -1,10 +1,9 @@
 // The text of a line, appended to a `String`.
-ghost use Rattle.std.specs.Prelude.{◌≡◌, [], ◌∷◌, ◌++◌, is_ok, string_bytes, decimal, OnOk};
+ghost use Rattle.std.specs.Prelude.{◌≡◌, [], ◌∷◌, ◌++◌, string_bytes, decimal, OnOk};
 ghost use Rattle.recording.specs.Lines.{said, ack, update, payload, refused, line_of, pair_fields, further, Short, text_of};
 
 use crate::lines::Line;
 use std::alloc::AllocError;
-use std::fmt;
 use wire::{Fault, Pairs, Priority};
 
 impl<'a> Line<'a> {
@@ -38,22 +37,12 @@ impl<'a> Line<'a> {
     }
 }
 
-// Want of memory is all that keeps text from being written to a `String`.
-pub(crate) fn written(outcome: fmt::Result) -> Result<(), AllocError>
-    ensures { is_ok result ≡ is_ok outcome }
-{
-    match outcome {
-        Ok(()) => Ok(()),
-        Err(_) => Err(AllocError),
-    }
-}
-
 // Appends the line of a SETTINGS frame.
 fn append_settings(index: u64, pairs: Pairs, text: &mut String) -> Result<(), AllocError>
     requires { Short (Line.Settings pairs) }
     ensures { OnOk result (string_bytes text.new ≡ string_bytes text.old ++ text_of index (said (Line.Settings pairs.entry))) }
 {
-    written(write!(text, "{index} settings"))?;
+    write!(text, "{index} settings")?;
     append_pairs(pairs, text)
 }
 
@@ -65,7 +54,7 @@ fn append_pairs(pairs: Pairs, text: &mut String) -> Result<(), AllocError>
     for pair in pairs {
         let identifier = pair.identifier;
         let value = pair.value;
-        written(write!(text, " {identifier}={value}"))?;
+        write!(text, " {identifier}={value}")?;
     }
     text.push('\n')
 }
@@ -74,7 +63,7 @@ fn append_pairs(pairs: Pairs, text: &mut String) -> Result<(), AllocError>
 fn append_ack(index: u64, text: &mut String) -> Result<(), AllocError>
     ensures { OnOk result (string_bytes text.new ≡ string_bytes text.old ++ text_of index ack) }
 {
-    written(writeln!(text, "{index} settings ack"))
+    writeln!(text, "{index} settings ack")
 }
 
 // Appends a line of a word and two numbers.
@@ -87,7 +76,7 @@ fn append_numbers(
 ) -> Result<(), AllocError>
     ensures { OnOk result (string_bytes text.new ≡ string_bytes text.old ++ line_of (decimal index) (word.now ∷ decimal first ∷ decimal second ∷ [])) }
 {
-    written(writeln!(text, "{index} {word} {first} {second}"))
+    writeln!(text, "{index} {word} {first} {second}")
 }
 
 // Appends the line of a PRIORITY_UPDATE frame.
@@ -101,7 +90,7 @@ fn append_priority(
 {
     let urgency = priority.urgency.number();
     let incremental = u8::from(priority.incremental);
-    written(writeln!(text, "{index} priority {target} {urgency} {incremental}"))
+    writeln!(text, "{index} priority {target} {urgency} {incremental}")
 }
 
 // Appends the line of a DATA frame.
@@ -115,7 +104,7 @@ fn append_data(
     ensures { OnOk result (string_bytes text.new ≡ string_bytes text.old ++ text_of index (payload stream length end)) }
 {
     let end = u8::from(end);
-    written(writeln!(text, "{index} data {stream} {length} {end}"))
+    writeln!(text, "{index} data {stream} {length} {end}")
 }
 
 // Appends the line of a frame that is refused.
@@ -126,5 +115,5 @@ fn append_fault(index: u64, fault: Fault, text: &mut String) -> Result<(), Alloc
     let code = fault.code;
     let stream = fault.stream;
     let place = fault.place;
-    written(writeln!(text, "{index} fault {number} {code} {stream} {place}"))
+    writeln!(text, "{index} fault {number} {code} {stream} {place}")
 }

@@ -1,7 +1,7 @@
 -- A new initial window, stream by stream and pair by pair.
 use Rattle.std.proofs.Common.{◌≡◌, ℕ, zero, suc, ◌+◌, ◌<◌, ◌≤◌, Bool, true, false, cond, eqb, List, [], ◌∷◌, map, length, get_or, ℤ, pos, ◌+ℤ◌, ◌-ℤ◌, ◌≤ℤ◌, is_some, IfSome, Some, None, Err, Decides, Option, sym, refl, ap, ◌∙◌, subst, ⊎_elim, arith, eq-eqb, ne_eqb}
 use Rattle.std.specs.Option.{option_map}
-use Rattle.std.specs.List.{AllByRecursion as All}
+use Rattle.std.specs.List.{AllByRecursion}
 use Rattle.std.proofs.lemmas.Bool.{cases_eq, true≢false, false≢true}
 use Rattle.records.specs.Tables.{record_of}
 use Rattle.credit.specs.Credit.{Credit, Meaning, MAX, window_of}
@@ -47,26 +47,26 @@ all_fit s room xs v streams tied most each = (
 
 -- what is told of some pairs is told of more: that they are refused, or that they pass
 abbrev pub Carries : Moment → List Setting → List Setting → Type 0
-Carries m some all = ((f : Fault) → RefusesPairs m some f → RefusesPairs m all f) × (All (PassesPair m) some → All (PassesPair m) all)
+Carries m some all = ((f : Fault) → RefusesPairs m some f → RefusesPairs m all f) × (AllByRecursion (PassesPair m) some → AllByRecursion (PassesPair m) all)
 
 pub carries-more : (m : Moment) (before behind all : List Setting) (p : Setting) → before ≡ p ∷ behind → PassesPair m p → Carries m before all → Carries m behind all
-carries-more m before behind all p e passes c = ((λ f r. c.0 f (subst (λ ps. RefusesPairs m ps f) (sym e) (further passes r))), λ a. c.1 (subst (All (PassesPair m)) (sym e) (passes, a)))
+carries-more m before behind all p e passes c = ((λ f r. c.0 f (subst (λ ps. RefusesPairs m ps f) (sym e) (further passes r))), λ a. c.1 (subst (AllByRecursion (PassesPair m)) (sym e) (passes, a)))
 
 pub carries-fault : (m : Moment) (before behind all : List Setting) (p : Setting) (f : Fault) → before ≡ p ∷ behind → RefusesPair m p f → Carries m before all → RefusesPairs m all f
 carries-fault m before behind all p f e refused c = c.0 f (subst (λ ps. RefusesPairs m ps f) (sym e) (here refused))
 
-pub carries-all : (m : Moment) (before all : List Setting) → before ≡ [] → Carries m before all → All (PassesPair m) all
-carries-all m before all e c = c.1 (subst (All (PassesPair m)) (sym e) tt)
+pub carries-all : (m : Moment) (before all : List Setting) → before ≡ [] → Carries m before all → AllByRecursion (PassesPair m) all
+carries-all m before all e c = c.1 (subst (AllByRecursion (PassesPair m)) (sym e) tt)
 
 -- the last initial window of pairs that pass is accepted
-last-after : (m : Moment) (latest : Option ℕ) (ps : List Setting) → IfSome latest (λ v. Accepts m.state.gate m.room (initial v)) → All (PassesPair m) ps → IfSome (last_after 4 latest ps) (λ v. Accepts m.state.gate m.room (initial v))
+last-after : (m : Moment) (latest : Option ℕ) (ps : List Setting) → IfSome latest (λ v. Accepts m.state.gate m.room (initial v)) → AllByRecursion (PassesPair m) ps → IfSome (last_after 4 latest ps) (λ v. Accepts m.state.gate m.room (initial v))
 last-after m latest [] h a = h
 last-after m latest (p ∷ ps) h a =
     last-after m (cond (eqb p.identifier 4) (Some p.value) latest) ps
     (⊎_elim (λ e. let t : eqb p.identifier 4 ≡ true = eq-eqb p.identifier 4 e in rw t (a.0.window e)) (λ n. let f : eqb p.identifier 4 ≡ false = ne_eqb p.identifier 4 n in rw f h) (cases_eq p.identifier 4))
     a.1
 
-pub last-accepted : (m : Moment) (ps : List Setting) → All (PassesPair m) ps → IfSome (last_of 4 ps) (λ v. Accepts m.state.gate m.room (initial v))
+pub last-accepted : (m : Moment) (ps : List Setting) → AllByRecursion (PassesPair m) ps → IfSome (last_of 4 ps) (λ v. Accepts m.state.gate m.room (initial v))
 last-accepted m ps a = last-after m None ps tt a
 
 -- a refused pair closes no stream

@@ -1,6 +1,6 @@
 -- What the parts of a call answer.
 use Rattle.std.specs.Prelude.{◌≡◌, ℕ, ◌+◌, ◌%◌, ◌<◌, ◌≤◌, Bool, true, false, cond, ◌||◌, ◌⊎◌, List, None, Ok, Err, Result, ◌==◌}
-use Rattle.std.specs.List.{AllByRecursion as All}
+use Rattle.std.specs.List.{AllByRecursion}
 use Rattle.wire.specs.Frames.{Told}
 use Rattle.wire.specs.Settings.{Ending}
 use Rattle.wire.specs.declared.frames.Frame.{Frame}
@@ -54,7 +54,7 @@ TestsPair m p (Ok _) = PassesPair m p
 TestsPair m p (Err f) = RefusesPair m p f
 
 abbrev pub TestsPairs : Moment → List Setting → Result (Unit {0}) Fault → Type 0
-TestsPairs m ps (Ok _) = All (PassesPair m) ps
+TestsPairs m ps (Ok _) = AllByRecursion (PassesPair m) ps
 TestsPairs m ps (Err f) = RefusesPairs m ps f
 
 -- the pairs of a frame end at a place of 32 bits

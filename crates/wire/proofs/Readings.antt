@@ -1,7 +1,7 @@
 -- What is computed of a value is what the grammar says of it.
 use Rattle.std.proofs.Common.{◌≡◌, ℕ, Bool, true, false, cond, leb, List, [], ◌∷◌, length, Some, None, Option, refl, ap, ◌∙◌, arith}
 use Rattle.std.specs.Option.{option_map}
-use Rattle.std.specs.List.{AllByRecursion as All}
+use Rattle.std.specs.List.{AllByRecursion}
 use Rattle.std.proofs.lemmas.Bool.{cond-true, le-leb, leb-true}
 use Rattle.wire.specs.declared.priorities.Latest.{Latest}
 use Rattle.wire.specs.declared.priorities.Priority.{Priority}
@@ -36,6 +36,6 @@ reads bs (Some p) e =
     )
 
 -- examples whose answers are computed are derived
-pub examples-derived : (es : List Example) → All (λ e. e.answer ≡ value_of e.value) es → All (λ e. Reads e.value e.answer) es
+pub examples-derived : (es : List Example) → AllByRecursion (λ e. e.answer ≡ value_of e.value) es → AllByRecursion (λ e. Reads e.value e.answer) es
 examples-derived [] h = tt
 examples-derived (e ∷ es) h = (reads e.value e.answer h.0, examples-derived es h.1)

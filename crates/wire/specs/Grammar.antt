@@ -1,7 +1,7 @@
 -- Priority values, the part of RFC 8941 that RFC 9218 needs: which octets a key, an item, a member and a value may be, and what a value means.
 use Rattle.std.specs.Prelude.{◌≡◌, ℕ, ◌+◌, ◌-◌, ◌*◌, ◌≤◌, Bool, true, false, cond, ◌&&◌, ◌||◌, List, [], ◌∷◌, ◌++◌, length, pos, negsuc, neg_ℤ, Some, None, Option, ◌==◌, nat_le, slice_index}
 use Rattle.std.specs.Option.{unwrap_or}
-use Rattle.std.specs.List.{AllByRecursion as All}
+use Rattle.std.specs.List.{AllByRecursion}
 use Rattle.wire.specs.declared.priorities.Item.{Item}
 use Rattle.wire.specs.declared.priorities.Item.TheVariants.{Boolean, Integer}
 use Rattle.wire.specs.declared.priorities.Latest.{Latest}
@@ -36,7 +36,7 @@ goes_on_key b = is_letter b || (is_digit b || (b == 95 || (b == 45 || (b == 46 |
 
 -- every octet passes a test
 abbrev pub Each : (ℕ → Bool) → List ℕ → Type 0
-Each test bs = All (λ b. test b ≡ true) bs
+Each test bs = AllByRecursion (λ b. test b ≡ true) bs
 
 -- a key
 pub data Key : List ℕ → Type 0 where

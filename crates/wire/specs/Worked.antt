@@ -1,6 +1,6 @@
 -- Worked priority values: each with the answer that the grammar gives it.
 use Rattle.std.specs.Prelude.{ℕ, true, false, List, [], ◌∷◌, map, Some, None, codes, Option}
-use Rattle.std.specs.List.{AllByRecursion as All}
+use Rattle.std.specs.List.{AllByRecursion}
 use Rattle.wire.specs.declared.priorities.Priority.{Priority}
 use Rattle.wire.specs.declared.urgencies.Urgency.TheVariants.{U0, U3, U5}
 use Rattle.wire.specs.Grammar.{Reads}
@@ -23,4 +23,4 @@ answers = map (λ e. e.answer) examples
 
 -- the answers are the grammar's
 abbrev pub Derived : Type 0
-Derived = All (λ e. Reads e.value e.answer) examples
+Derived = AllByRecursion (λ e. Reads e.value e.answer) examples

@@ -4,7 +4,6 @@ ghost use Rattle.recording.specs.Listings.{state, start, done, moved, moved_text
 
 use crate::lines::Line;
 use crate::listings::Listing;
-use crate::texts::written;
 use std::alloc::{AllocError, Global};
 use wire::split_frame;
 
@@ -48,7 +47,7 @@ impl<'a> Listing<'a> {
         let frames = self.frames;
         let faults = self.faults;
         let octets = self.octets;
-        written(writeln!(text, "sum {frames} {faults} {octets}"))
+        writeln!(text, "sum {frames} {faults} {octets}")
     }
 }
 

@@ -1,6 +1,6 @@
 use Rattle.std.proofs.Common.{◌≡◌, List, sym, refl, ap, ◌∙◌, subst}
 use Rattle.std.proofs.lemmas.Result.{err_from_is_err_and}
-use Rattle.std.specs.List.{AllByRecursion as All}
+use Rattle.std.specs.List.{AllByRecursion}
 use Rattle.wire.specs.Settings.{to_come}
 use Rattle.wire.specs.declared.settings.Pairs.{Pairs}
 use Rattle.wire.proofs.PairSteps.{next-comes, next-ends, none-comes}
@@ -27,4 +27,4 @@ returns-in_err-test-pair g c =
 pub returns : goal.returns
 returns g c k valid tied =
     let none = none-comes c.loop-pair.pair-iterator c.next.new.self c.in-None.ensures.steps c.loop-pair.invariant.1 in
-    subst (λ (s : Pairs). All (PassesPair (moment_of g.G.Gate.meaning g.G.Gate.free g.P.Policy.ranks g.P.Policy.picks c.args.self.now k)) (to_come s)) c.into-iter-pair-iterator.ensures.into-iter-gives (carries-all _ _ _ none (c.loop-pair.invariant.0 k valid tied))
+    subst (λ (s : Pairs). AllByRecursion (PassesPair (moment_of g.G.Gate.meaning g.G.Gate.free g.P.Policy.ranks g.P.Policy.picks c.args.self.now k)) (to_come s)) c.into-iter-pair-iterator.ensures.into-iter-gives (carries-all _ _ _ none (c.loop-pair.invariant.0 k valid tied))
