@@ -1,9 +1,9 @@
 -- The fields of a SETTINGS frame's pairs, one pair after another.
-use Rattle.std.proofs.Common.{◌≡◌, ℕ, suc, ◌+◌, ◌-◌, ◌/◌, ◌<◌, ◌≤◌, true, false, ltb, leb, List, [], ◌∷◌, ◌++◌, map, length, drop, Some, None, sym, refl, ap, ◌∙◌, ⊎_elim, append_assoc, arith, length-drop}
+use Rattle.std.proofs.Common.{◌≡◌, ℕ, suc, ◌+◌, ◌-◌, ◌/◌, ◌<◌, ◌≤◌, ltb, leb, List, [], ◌∷◌, ◌++◌, map, length, drop, Some, None, sym, ap, ◌∙◌, ⊎_elim, append_assoc, arith, length-drop}
 use Rattle.std.proofs.lemmas.Bool.{and_parts, and_cases, leb-true, leb-false, ltb-false}
 use Rattle.wire.specs.declared.settings.Setting.{Setting}
 use Rattle.wire.specs.declared.settings.Pairs.{Pairs}
-use Rattle.wire.specs.Settings.{setting_at, settings_from, more, Next}
+use Rattle.wire.specs.Settings.{setting_at, settings_from, Next}
 use Rattle.recording.specs.Lines.{further, pair_field, pair_fields}
 
 -- with six octets left, the first pair comes before the others

@@ -1,5 +1,5 @@
 -- The listing of a recording: a line for each frame, and a last line with the counts.
-use Rattle.std.specs.Prelude.{ℕ, zero, suc, ◌+◌, ◌-◌, Bool, true, false, cond, List, [], ◌∷◌, ◌++◌, length, take, drop, codes, decimal, ◌==◌}
+use Rattle.std.specs.Prelude.{ℕ, zero, suc, ◌+◌, ◌-◌, Bool, cond, List, [], ◌∷◌, ◌++◌, length, take, drop, codes, decimal, ◌==◌}
 use Rattle.wire.specs.Frames.{frame_end}
 use Rattle.recording.specs.declared.listings.Listing.{Listing}
 use Rattle.recording.specs.Lines.{Said, said_of, is_fault, line_of, text_of}

@@ -1,18 +1,18 @@
-use Rattle.std.proofs.Common.{◌≡◌, List, [], ◌∷◌, ◌++◌, string_bytes, sym, ap, ◌∙◌}
+use Rattle.std.proofs.Common.{◌≡◌, [], ◌∷◌, ◌++◌, string_bytes, sym, ap, ◌∙◌}
 use lib.Utf8.{encode}
 use Rattle.recording.proofs.PairFields.{pair-written, pairs-written, fields_to_come}
-use Rattle.recording.proofs.Outcomes.{made_ok, made-push}
+use Rattle.recording.proofs.Outcomes.{made-push}
 use Rattle.recording.proofs.texts.append_pairs.Goals as goal
 
 pub loop-pair-preserved : goal.loop-pair-preserved
 loop-pair-preserved c =
     pair-written c.loop-pair.pair-iterator c.next.new.self c.in-Some.pair _ _ _ c.in-Some.ensures.steps c.loop-pair.invariant.1
-    c.loop-pair.invariant.0 (made_ok c.write.result _ (sym c.in_ok-written.ensures) c.write.ensures.bytes)
+    c.loop-pair.invariant.0 c.in_ok-write.ensures.bytes
 
 pub returns : goal.returns
 unfolding encode
 returns c =
     let rest = pairs-written c.loop-pair.pair-iterator c.next.new.self c.in-None.ensures.steps c.loop-pair.invariant.1 in
     let all : string_bytes c.loop-pair.text ++ (10 ∷ []) ≡ string_bytes c.args.text.now ++ fields_to_come c.args.pairs
-    = ap (λ x. string_bytes c.loop-pair.text ++ x) (sym rest) ∙ c.loop-pair.invariant.0 ∙ ap (λ s. string_bytes c.args.text.now ++ fields_to_come s) c.into-iter-pair-iterator.ensures.into-iter-gives in
+    = ap (λ x. string_bytes c.loop-pair.text ++ x) (sym rest) ∙ c.loop-pair.invariant.0 ∙ ap (λ s. string_bytes c.args.text.now ++ fields_to_come s) c.into_iter-pair-iterator.ensures.into_iter_gives in
     made-push c.push.result _ _ _ _ c.push.ensures.bytes all
