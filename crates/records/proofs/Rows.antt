@@ -1,11 +1,10 @@
 -- The row of an id: what stands there, and what is left without it.
-use Rattle.std.proofs.Common.{◌≡◌, ℕ, zero, suc, ◌<◌, true, false, eqb, List, [], ◌∷◌, map, length, get_or, Some, None, Option, sym, refl, ap, ◌∙◌, subst, ⊎_elim, arith, Bor, eq-eqb, ne_eqb}
-use Rattle.std.specs.List.{remove}
-use Rattle.std.specs.Slice.{IsGetResult}
+use Rattle.std.proofs.Common.{◌≡◌, ℕ, suc, ◌<◌, false, eqb, List, [], ◌∷◌, map, length, get_or, Some, None, Option, sym, refl, ap, ◌∙◌, subst, ⊎_elim, arith, MutBor, eq-eqb, ne_eqb}
+use Rattle.std.specs.List.{remove, IsItemAtMut}
 use Rattle.std.proofs.lemmas.List.{length-map}
 use Rattle.std.proofs.lemmas.Bool.{cases_eq}
 use Rattle.records.specs.Records.{Absent, Finds, seek}
-use Rattle.records.specs.Tables.{Is, Found, without}
+use Rattle.records.specs.Tables.{Is, FoundMut, without}
 use Rattle.records.proofs.Ids.{id-at, seek-first}
 
 module _ {X : Type 0} (key : X → ℕ) where
@@ -25,7 +24,7 @@ module _ {X : Type 0} (key : X → ℕ) where
       }
 
   -- the same of a row that is lent
-  pub lent_found : (rows : List X) (id i : ℕ) (r : Option (Bor X)) → Finds (map key rows) id (Some i) → IsGetResult rows i i r → Found key rows id r
+  pub lent_found : (rows : List X) (id i : ℕ) (r : Option (MutBor X)) → Finds (map key rows) id (Some i) → IsItemAtMut rows i r → FoundMut key rows id r
   lent_found rows id i None f it = absurd (omega (arith, it.3, found_within rows id i f))
   lent_found rows id i (Some x) f it = found-is rows id i x.now f (it.3.1 x.now)
 

@@ -1,6 +1,6 @@
 -- A table of records: the record with an id, and the table without it.
 use Rattle.std.specs.Prelude.{◌≡◌, ℕ, ◌<◌, cond, List, [], ◌∷◌, map, length, Some, None, Option, ◌==◌, slice_index_or}
-use Rattle.std.specs.Borrow.{Bor}
+use Rattle.std.specs.Borrow.{Bor, MutBor}
 use Rattle.records.specs.Records.{Absent, seek}
 
 -- a record is the first with the id
@@ -13,6 +13,11 @@ pub record Is {X : Type 0} (key : X → ℕ) (rows : List X) (id : ℕ) (x : X) 
 abbrev pub Found : {X : Type 0} → (X → ℕ) → List X → ℕ → Option (Bor X) → Type 0
 Found key rows id None = Absent (map key rows) id
 Found key rows id (Some x) = Is key rows id x.now
+
+-- the record with the id is lent to be changed; none exactly where no record has it
+abbrev pub FoundMut : {X : Type 0} → (X → ℕ) → List X → ℕ → Option (MutBor X) → Type 0
+FoundMut key rows id None = Absent (map key rows) id
+FoundMut key rows id (Some x) = Is key rows id x.now
 
 -- the record with the id is taken
 abbrev pub Taken : {X : Type 0} → (X → ℕ) → List X → ℕ → Option X → Type 0

@@ -1,4 +1,6 @@
 // Records that have an id: one lookup over them, and a table that lends them.
+#![tactic(auto)]
+
 pub mod lookup;
 pub mod tables;
 

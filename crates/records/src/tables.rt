@@ -4,7 +4,7 @@ ghost use Rattle.std.specs.Borrow.{sem, follows_if};
 ghost use Rattle.std.specs.Vec.{with_item};
 ghost use Rattle.std.specs.Option.{ghost_name_of as name_of};
 ghost use Rattle.records.specs.Records.{Finds, seek};
-ghost use Rattle.records.specs.Tables.{Found, without, Taken};
+ghost use Rattle.records.specs.Tables.{Found, FoundMut, without, Taken};
 ghost use Rattle.records.specs.contracts.tables.Table.{the_row};
 
 use crate::lookup::{Record, find};
@@ -55,7 +55,7 @@ impl<R: Record + Drop> Table<R> {
     // Lends the record with the id, to be changed; the table follows it.
     pub fn get_mut(&mut self, id: u32) -> Option<&mut R>
         ensures* follows { sem 𝓛 (follows_if (the_row R.row) R.row self.entry.ghost_name (name_of result) (λ w. record { rows = with_item self.old.rows (seek (map R.Record.key self.old.rows.items) id) w }) self.old) }
-        ensures finds { Found R.Record.key self.old.rows.items id result }
+        ensures finds { FoundMut R.Record.key self.old.rows.items id result }
     {
         match self.place(id) {
             Some(i) => self.rows.get_mut(i),

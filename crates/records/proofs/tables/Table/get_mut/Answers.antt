@@ -9,4 +9,4 @@ returns-in-Some g c =
     let f = c.in-Some.ensures in
     let rows = vec_items c.args.self.now.rows in
     let first : seek (map g.R.Record.key rows) c.args.id ≡ c.in-Some.i = seek-first _ _ _ f.0 f.1 f.2 in
-    (simp first refl, lent_found g.R.Record.key rows c.args.id c.in-Some.i c.get-mut.result f c.get-mut.ensures.item)
+    (simp first refl, record { follows = tt; finds = lent_found g.R.Record.key rows c.args.id c.in-Some.i c.get_mut.result f c.get_mut.ensures.item })
