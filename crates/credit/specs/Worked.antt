@@ -1,5 +1,5 @@
 -- Worked cases of credit, over what each call does.
-use Rattle.std.specs.Prelude.{◌≡◌, ℕ, List, [], ◌∷◌, ℤ, pos, negsuc, Some, None, Option}
+use Rattle.std.specs.Prelude.{◌≡◌, List, [], ◌∷◌, ℤ, pos, negsuc, Some, Option}
 use Rattle.std.specs.Option.{option_map}
 use Rattle.credit.specs.Credit.{Meaning, fresh, left, most_room, window_of}
 use Rattle.credit.specs.Calls.{Call, Accepts, after, begin, raise, initial, hold, spend}

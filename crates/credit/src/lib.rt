@@ -1,4 +1,6 @@
 // Send credit: the interface of a gate, and the cap over any gate.
+#![tactic(auto)]
+
 pub mod caps;
 pub mod gates;
 pub mod transfers;
