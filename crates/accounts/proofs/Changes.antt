@@ -1,5 +1,5 @@
 -- What each call on one stream makes of the books.
-use Rattle.std.proofs.Common.{◌≡◌, ℕ, ◌+◌, ◌-◌, ◌<◌, ◌≤◌, Bool, true, false, cond, eqb, ◌⊎◌, List, [], ◌∷◌, ◌++◌, length, get_or, set, ℤ, pos, negsuc, ◌+ℤ◌, ◌-ℤ◌, ◌≤ℤ◌, is_some, Some, None, Decides, Option, sym, refl, ap, ◌∙◌, subst, inl, inr, ⊎_elim, arith, length-set, ne_eqb, MatchOption}
+use Rattle.std.proofs.Common.{◌≡◌, ℕ, ◌+◌, ◌-◌, ◌<◌, ◌≤◌, Bool, true, false, cond, eqb, ◌⊎◌, List, [], ◌∷◌, ◌++◌, length, set, ℤ, pos, negsuc, ◌+ℤ◌, ◌-ℤ◌, ◌≤ℤ◌, is_some, Some, None, Decides, Option, sym, refl, ap, ◌∙◌, subst, inl, inr, ⊎_elim, arith, length-set, ne_eqb, MatchOption}
 use mathlib.Core.Path.{fun_ext}
 use Rattle.std.proofs.lemmas.List.{set-get_or, length_push}
 use Rattle.std.proofs.lemmas.Int.{ints}
@@ -41,9 +41,9 @@ module _ (b i c t : ℕ) (rows : List Account) (id : ℕ) (x : Account) (is : Is
 
   -- the meaning with the changed account's credit
   meaning-changed : (d u : ℕ) (y : Account) (k : Credit) → y.id ≡ id → credit_at b y ≡ k
-      → meant b i d u (changed y) ≡ record { initial = i; connection = d; stream = λ q. cond (eqb q id) (Some k) (stream_in b rows q); begun = length rows; held = u; limit = 64 }
+      → meant b i d u (changed y) ≡ record { initial = i; connection = d; stream = λ q. cond (eqb id q) (Some k) (stream_in b rows q); begun = length rows; held = u; limit = 64 }
   meaning-changed d u y k e same =
-      same-meaning i d (λ q. stream-set b rows id y q e is.there ∙ ap (λ s. cond (eqb q id) (Some s) (stream_in b rows q)) same) (as_many y) refl
+      same-meaning i d (λ q. stream-set b rows id y q e is.there ∙ ap (λ s. cond (eqb id q) (Some s) (stream_in b rows q)) same) (as_many y) refl
 
   fair-changed : (y : Account) → Fairs b i rows → y.id ≡ id → Fair b i y → Fairs b i (changed y)
   fair-changed y f e g = fairs-set b i rows id y f g e is.there
@@ -136,8 +136,8 @@ module _ (b i c t id : ℕ) (rows : List Account) (y : Account) (named : y.id �
       same-meaning i c
       (λ q.
       stream-push b rows y q no_other
-      ∙ ap (λ k. cond (eqb q k) (Some (credit_at b y)) (stream_in b rows q)) named
-      ∙ ap (λ s. cond (eqb q id) (Some s) (stream_in b rows q)) (λ j. record { window = whole j; held = free j }))
+      ∙ ap (λ k. cond (eqb k q) (Some (credit_at b y)) (stream_in b rows q)) named
+      ∙ ap (λ s. cond (eqb id q) (Some s) (stream_in b rows q)) (λ j. record { window = whole j; held = free j }))
       (length_push rows y) refl
 
   pub begin-fair : i ≤ MAX → 1 ≤ id → Fairs b i rows → Fairs b i (rows ++ y ∷ [])

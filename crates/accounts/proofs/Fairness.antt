@@ -1,17 +1,16 @@
 -- That accounts stay fair, and what follows of every stream.
-use Rattle.std.proofs.Common.{◌≡◌, ℕ, zero, suc, ◌+◌, ◌<◌, ◌≤◌, Bool, true, false, cond, eqb, List, [], ◌∷◌, ◌++◌, length, get_or, set, pos, ◌+ℤ◌, ◌-ℤ◌, ◌≤ℤ◌, is_some, Some, None, Option, sym, refl, ap, ◌∙◌, subst, ⊎_elim, arith, eq-eqb, ne_eqb}
+use Rattle.std.proofs.Common.{◌≡◌, ℕ, zero, suc, ◌<◌, ◌≤◌, true, false, eqb, List, [], ◌∷◌, ◌++◌, length, get_or, set, pos, ◌+ℤ◌, ◌-ℤ◌, ◌≤ℤ◌, is_some, Some, None, sym, refl, ap, ◌∙◌, subst, ⊎_elim, arith, eq-eqb, ne_eqb}
 use mathlib.Core.Logic.{∥∥₁_elim}
 use mathlib.Core.HLevel.{×₃_prop, Unit-prop}
 use denote.Struct.Props.{props}
 use Rattle.std.proofs.lemmas.Bool.{cases_eq}
 use Rattle.std.proofs.lemmas.Int.{ints}
-use Rattle.std.proofs.lemmas.Bool.Decides.{nat_tests}
 use Rattle.records.specs.Records.{seek}
 use Rattle.records.specs.Tables.{Is, without}
 use Rattle.credit.specs.Credit.{MAX, amount, Bounded, Within}
 use Rattle.accounts.specs.Accounts.{credit_at, stream_in, held_in, Fair, Fairs, InBounds}
 use Rattle.accounts.specs.declared.accounts_of_streams.Account.{Account}
-use Rattle.accounts.proofs.Streams.{id_of, ids, none_from, stream-push, stream-set, stream-without}
+use Rattle.accounts.proofs.Streams.{id_of, ids, stream-push, stream-set, stream-without}
 
 module _ (b i : ℕ) where
   fairs-prop : (rows : List Account) → IsProp (Fairs b i rows)
@@ -56,7 +55,7 @@ module _ (b i : ℕ) where
       (λ n.
       let e : eqb a.id x.id ≡ false = ne_eqb a.id x.id n in
       let further : stream_in b rows x.id ≡ None = rw e at h in
-      (f.0, ap is_some (stream-push b rows x a.id further) ∙ rw e f.1, fairs-push rows x f.2 g further))
+      (f.0, ap is_some (stream-push b rows x a.id further) ∙ rw (ne_eqb x.id a.id (λ z. n (sym z))) f.1, fairs-push rows x f.2 g further))
       (cases_eq a.id x.id)
 
   pub fairs-set : (rows : List Account) (id : ℕ) (x : Account) → Fairs b i rows → Fair b i x → x.id ≡ id → seek (ids rows) id < length rows → Fairs b i (set rows (seek (ids rows) id) x)
@@ -69,7 +68,7 @@ module _ (b i : ℕ) where
       (λ n.
       let t : eqb a.id id ≡ false = ne_eqb a.id id n in
       let further : seek (ids rows) id < length rows = omega (arith, rw t at h) in
-      rw t (f.0, ap is_some (stream-set b rows id x a.id e further) ∙ rw t f.1, fairs-set rows id x f.2 g e further))
+      rw t (f.0, ap is_some (stream-set b rows id x a.id e further) ∙ rw (ne_eqb id a.id (λ z. n (sym z))) f.1, fairs-set rows id x f.2 g e further))
       (cases_eq a.id id)
 
   pub fairs-without : (rows : List Account) (id : ℕ) → Fairs b i rows → seek (ids rows) id < length rows → Fairs b i (without id_of id rows)
@@ -80,7 +79,7 @@ module _ (b i : ℕ) where
       (λ n.
       let t : eqb a.id id ≡ false = ne_eqb a.id id n in
       let further : seek (ids rows) id < length rows = omega (arith, rw t at h) in
-      rw t (f.0, ap is_some (stream-without b i rows id a.id f.2 further) ∙ rw t f.1, fairs-without rows id f.2 further))
+      rw t (f.0, ap is_some (stream-without b i rows id a.id f.2 further) ∙ rw (ne_eqb id a.id (λ z. n (sym z))) f.1, fairs-without rows id f.2 further))
       (cases_eq a.id id)
 
 -- a fair account's window is from -MAX to MAX

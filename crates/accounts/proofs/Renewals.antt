@@ -1,12 +1,12 @@
 -- What a new initial window makes of the books.
-use Rattle.std.proofs.Common.{◌≡◌, ℕ, ◌+◌, ◌≤◌, Bool, true, false, cond, eqb, List, [], ◌∷◌, ◌++◌, map, length, take, drop, ℤ, pos, negsuc, ◌+ℤ◌, ◌-ℤ◌, ◌≤ℤ◌, is_some, IfSome, Some, None, Option, sym, refl, ap, ◌∙◌, subst, ⊎_elim, map-id, arith, eq-eqb, ne_eqb}
+use Rattle.std.proofs.Common.{◌≡◌, ℕ, ◌+◌, ◌≤◌, false, List, [], ◌∷◌, ◌++◌, map, length, take, drop, pos, ◌+ℤ◌, ◌-ℤ◌, ◌≤ℤ◌, is_some, IfSome, Some, None, Option, sym, refl, ap, ◌∙◌, subst, ⊎_elim, map-id, arith, eq-eqb, ne_eqb}
 use mathlib.Core.Path.{fun_ext}
 use Rattle.std.specs.Option.{option_map}
 use Rattle.std.specs.List.{AllByRecursion as All}
 use Rattle.std.proofs.lemmas.Bool.{cases_eq}
 use Rattle.std.proofs.lemmas.Int.{ints}
 use Rattle.std.proofs.lemmas.List.{length-map, take_at}
-use Rattle.credit.specs.Credit.{Credit, Meaning, MAX, amount}
+use Rattle.credit.specs.Credit.{Credit, MAX, amount}
 use Rattle.credit.specs.Calls.{shifted, after, initial}
 use Rattle.accounts.specs.Accounts.{credit_at, shifted_by, stream_in, held_in, Fair, Fairs, meant, Fits, InRange}
 use Rattle.accounts.specs.declared.accounts_of_streams.Account.{Account}

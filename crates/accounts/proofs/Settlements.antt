@@ -15,8 +15,8 @@ use Rattle.accounts.specs.Books.{meaning_of}
 use Rattle.accounts.specs.Storages.{base_of, renewed_by, Renewable}
 use Rattle.accounts.proofs.Balances.{within_held}
 use Rattle.accounts.proofs.Beginnings.{base-within, added}
-use Rattle.accounts.proofs.Changes.{changed, unchanged, as_many, held-changed, raise-answers, raise-leaves, raise-fair, raise-held, hold-answers, hold-leaves, hold-fair, hold-held, spend-answers, spend-leaves, spend-fair, spend-held, finish-answers, finish-leaves, finish-fair, finish-held, one_less}
-use Rattle.accounts.proofs.Fairness.{fairs-from, fair-found}
+use Rattle.accounts.proofs.Changes.{unchanged, as_many, held-changed, raise-answers, raise-leaves, raise-fair, raise-held, hold-answers, hold-leaves, hold-fair, hold-held, spend-answers, spend-leaves, spend-fair, spend-held, finish-answers, finish-leaves, finish-fair, finish-held, one_less}
+use Rattle.accounts.proofs.Fairness.{fairs-from}
 use Rattle.accounts.proofs.Renewals.{Renewed, renewed, renewable, all-fit-from, in_place}
 use Rattle.accounts.proofs.Streams.{id_of, ids, stream-absent}
 

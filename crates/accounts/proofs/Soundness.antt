@@ -1,5 +1,5 @@
 -- What holds of all books.
-use Rattle.std.proofs.Common.{◌≡◌, ℕ, ◌≤◌, Bool, ap, ◌∙◌, arith}
+use Rattle.std.proofs.Common.{◌≡◌, ◌≤◌, Bool, ap, ◌∙◌, arith}
 use Rattle.std.proofs.lemmas.Bool.{cond-true, cond-false}
 use Rattle.credit.specs.Calls.{Call, after}
 use Rattle.credit.specs.Credit.{Sound, most_room}

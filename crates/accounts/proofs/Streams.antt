@@ -1,10 +1,10 @@
 -- What the streams are, and what is held, after an account is found, added, changed or taken out.
-use Rattle.std.proofs.Common.{◌≡◌, ℕ, zero, suc, ◌+◌, ◌-◌, ◌<◌, ◌≤◌, Bool, true, false, cond, eqb, List, [], ◌∷◌, ◌++◌, map, length, get_or, set, is_some, Some, None, Option, sym, refl, ap, ◌∙◌, ⊎_elim, arith, eq-eqb, ne_eqb}
+use Rattle.std.proofs.Common.{◌≡◌, ℕ, zero, suc, ◌+◌, ◌<◌, true, false, cond, eqb, List, [], ◌∷◌, ◌++◌, map, length, get_or, set, is_some, Some, None, Option, sym, refl, ap, ⊎_elim, arith, eq-eqb, ne_eqb}
 use Rattle.std.proofs.lemmas.Bool.{cases_eq, true≢false}
 use Rattle.std.proofs.lemmas.Bool.Decides.{nat_tests}
 use Rattle.records.specs.Records.{seek, Absent}
 use Rattle.records.specs.Tables.{Is, without}
-use Rattle.credit.specs.Credit.{Credit, amount}
+use Rattle.credit.specs.Credit.{amount}
 use Rattle.accounts.specs.Accounts.{credit_at, stream_in, held_in, Fairs}
 use Rattle.accounts.specs.declared.accounts_of_streams.Account.{Account}
 
@@ -64,12 +64,12 @@ module _ (b : ℕ) where
   stream-found rows id x is = found rows id x is.there is.at
 
   -- one account more behind the others
-  pub stream-push : (rows : List Account) (x : Account) (q : ℕ) → stream_in b rows x.id ≡ None → stream_in b (rows ++ x ∷ []) q ≡ cond (eqb q x.id) (Some (credit_at b x)) (stream_in b rows q)
+  pub stream-push : (rows : List Account) (x : Account) (q : ℕ) → stream_in b rows x.id ≡ None → stream_in b (rows ++ x ∷ []) q ≡ cond (eqb x.id q) (Some (credit_at b x)) (stream_in b rows q)
   stream-push [] x q h = grind (arith, nat_tests)
   stream-push (a ∷ rows) x q h = grind (arith, nat_tests, stream-push rows x q)
 
   -- another account of the same id at its place
-  pub stream-set : (rows : List Account) (id : ℕ) (x : Account) (q : ℕ) → x.id ≡ id → seek (ids rows) id < length rows → stream_in b (set rows (seek (ids rows) id) x) q ≡ cond (eqb q id) (Some (credit_at b x)) (stream_in b rows q)
+  pub stream-set : (rows : List Account) (id : ℕ) (x : Account) (q : ℕ) → x.id ≡ id → seek (ids rows) id < length rows → stream_in b (set rows (seek (ids rows) id) x) q ≡ cond (eqb id q) (Some (credit_at b x)) (stream_in b rows q)
   stream-set [] id x q e h = absurd (omega arith)
   stream-set (a ∷ rows) id x q e h =
       ⊎_elim
@@ -81,7 +81,7 @@ module _ (b : ℕ) where
       (cases_eq a.id id)
 
   -- the account of the id is gone
-  pub stream-without : (i : ℕ) (rows : List Account) (id : ℕ) (q : ℕ) → Fairs b i rows → seek (ids rows) id < length rows → stream_in b (without id_of id rows) q ≡ cond (eqb q id) None (stream_in b rows q)
+  pub stream-without : (i : ℕ) (rows : List Account) (id : ℕ) (q : ℕ) → Fairs b i rows → seek (ids rows) id < length rows → stream_in b (without id_of id rows) q ≡ cond (eqb id q) None (stream_in b rows q)
   stream-without i [] id q g h = absurd (omega arith)
   stream-without i (a ∷ rows) id q g h =
       ⊎_elim

@@ -1,5 +1,5 @@
 -- What the books mean, and what a call on them does.
-use Rattle.std.specs.Prelude.{◌≡◌, ℕ, Bool, cond, vec_items, Decides}
+use Rattle.std.specs.Prelude.{◌≡◌, Bool, cond, vec_items, Decides}
 use Rattle.credit.specs.Credit.{Meaning, most_room}
 use Rattle.credit.specs.Calls.{Call, Accepts, after}
 use Rattle.accounts.specs.declared.bookkeeping.Books.{Books}

@@ -1,4 +1,6 @@
 // The books of a gate that keeps an account for each stream: what direct and offset windows share.
+#![tactic(auto)]
+
 pub mod accounts_of_streams;
 pub mod all_accounts;
 pub mod bookkeeping;

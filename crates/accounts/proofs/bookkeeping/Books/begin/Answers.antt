@@ -13,14 +13,14 @@ returns-in-Some c =
       storage = refl;
     }
 
-pub invariant-of-self : goal.invariant-of-self
-invariant-of-self c =
+pub invariant_of-self : goal.invariant_of-self
+invariant_of-self c =
     let s = c.args.self.now in
-    let b = begins s c.args.id c.base.result (vec_items c.add.new.self.rows) c.add.result c.base.ensures c.in-default.ensures c.if-id-eq0.false c.add.ensures.answers c.add.ensures.rows in
-    (b.within, ((b.few, omega (arith, c.add.ensures.memory, s.roomy.1)), (b.sums, (∣ b.fair ∣₁, tt))))
+    let b = begins s c.args.id c.base.result (vec_items c.add.new.self.rows) c.add.result c.base.ensures c.in_default.ensures c.if-id-eq0.false c.add.ensures.answers c.add.ensures.rows in
+    record { within = b.within; roomy = (b.few, omega (arith, c.add.ensures.memory, s.roomy.1)); sums = b.sums; fair = ∣ b.fair ∣₁ }
 
 pub returns : goal.returns
 returns c =
     let s = c.args.self.now in
-    let b = begins s c.args.id c.base.result (vec_items c.add.new.self.rows) c.add.result c.base.ensures c.in-default.ensures c.if-id-eq0.false c.add.ensures.answers c.add.ensures.rows in
+    let b = begins s c.args.id c.base.result (vec_items c.add.new.self.rows) c.add.result c.base.ensures c.in_default.ensures c.if-id-eq0.false c.add.ensures.answers c.add.ensures.rows in
     record { answers = b.answers; leaves = b.leaves; storage = refl }

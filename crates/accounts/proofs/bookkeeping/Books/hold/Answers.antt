@@ -6,15 +6,10 @@ use Rattle.accounts.proofs.Settlements.{base, rows_of, Settled, holds}
 use Rattle.accounts.proofs.Streams.{ids, stream-absent}
 use Rattle.accounts.proofs.bookkeeping.Books.hold.Goals as goal
 
-pub invariant-of-self-then-hold : goal.invariant-of-self-then-hold
-invariant-of-self-then-hold c =
+pub invariant_of-self-then-hold : goal.invariant_of-self-then-hold
+invariant_of-self-then-hold c =
     let b = subst (λ r. Settled c.args.self.now (hold c.args.id c.args.n) r c.args.self.now.connection (cond r (c.args.self.now.held + c.args.n) c.args.self.now.held) (set (rows_of c.args.self.now) (seek (ids (rows_of c.args.self.now)) c.args.id) c.hold.new.self)) c.if-hold.true (holds c.args.self.now c.args.id c.in-Some.account.now c.in-Some.ensures.finds c.args.n c.base-base.result c.hold.new.self c.hold.result c.base-base.ensures (omega arith) c.hold.ensures.answers c.hold.ensures.leaves) in
-    (b.within, ((b.few, c.args.self.now.roomy.1), (b.sums, (∣ b.fair ∣₁, tt))))
-
-pub invariant-of-self-else-hold : goal.invariant-of-self-else-hold
-invariant-of-self-else-hold c =
-    let b = subst (λ r. Settled c.args.self.now (hold c.args.id c.args.n) r c.args.self.now.connection (cond r (c.args.self.now.held + c.args.n) c.args.self.now.held) (set (rows_of c.args.self.now) (seek (ids (rows_of c.args.self.now)) c.args.id) c.hold.new.self)) c.if-hold.false (holds c.args.self.now c.args.id c.in-Some.account.now c.in-Some.ensures.finds c.args.n c.base-base.result c.hold.new.self c.hold.result c.base-base.ensures (omega arith) c.hold.ensures.answers c.hold.ensures.leaves) in
-    (b.within, ((b.few, c.args.self.now.roomy.1), (b.sums, (∣ b.fair ∣₁, tt))))
+    record { within = b.within; roomy = (b.few, c.args.self.now.roomy.1); sums = b.sums; fair = ∣ b.fair ∣₁ }
 
 pub returns-in-None : goal.returns-in-None
 returns-in-None c =

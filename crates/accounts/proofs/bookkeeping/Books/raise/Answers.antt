@@ -4,11 +4,11 @@ use Rattle.accounts.proofs.Settlements.{base, rows_of, raises}
 use Rattle.accounts.proofs.Streams.{stream-absent}
 use Rattle.accounts.proofs.bookkeeping.Books.raise.Goals as goal
 
-pub invariant-of-self-in-Some : goal.invariant-of-self-in-Some
-invariant-of-self-in-Some c =
+pub invariant_of-self-in-Some : goal.invariant_of-self-in-Some
+invariant_of-self-in-Some c =
     let s = c.args.self.now in
     let b = raises s c.args.id c.in-Some.account.now c.in-Some.ensures.finds c.args.v c.base-base.result c.raise.new.self c.raise.result c.base-base.ensures c.if-id-eq0.false c.raise.ensures.answers c.raise.ensures.leaves in
-    (b.within, ((b.few, s.roomy.1), (b.sums, (∣ b.fair ∣₁, tt))))
+    record { within = b.within; roomy = (b.few, s.roomy.1); sums = b.sums; fair = ∣ b.fair ∣₁ }
 
 pub returns-in-None : goal.returns-in-None
 returns-in-None c =

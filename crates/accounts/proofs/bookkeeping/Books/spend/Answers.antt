@@ -1,4 +1,4 @@
-use Rattle.std.proofs.Common.{◌≡◌, ◌-◌, ◌<◌, ◌≤◌, cond, set, pos, ◌+ℤ◌, ◌-ℤ◌, ◌≤ℤ◌, sym, refl, subst, arith}
+use Rattle.std.proofs.Common.{◌-◌, ◌<◌, ◌≤◌, cond, set, pos, ◌+ℤ◌, ◌-ℤ◌, ◌≤ℤ◌, sym, refl, subst, arith}
 use Rattle.std.proofs.lemmas.Int.{ints}
 use Rattle.std.proofs.lemmas.Bool.{false≢true}
 use Rattle.records.specs.Records.{seek}
@@ -30,21 +30,16 @@ covered c =
       part_held c.args.self.now c.args.id x c.in-Some.ensures.finds,
     )
 
-pub overflow-sub-self : goal.overflow-sub-self
-overflow-sub-self c = let b = covered c in omega (arith, c.args.self.now.within.2)
+pub overflow_sub-self : goal.overflow_sub-self
+overflow_sub-self c = let b = covered c in omega (arith, c.args.self.now.within.2)
 
-pub overflow-sub-self-then-spend : goal.overflow-sub-self-then-spend
-overflow-sub-self-then-spend c = let b = covered c in omega (arith, c.amount-amount.ensures)
+pub overflow_sub-self-then-spend : goal.overflow_sub-self-then-spend
+overflow_sub-self-then-spend c = let b = covered c in omega (arith, c.amount-amount.ensures)
 
-pub invariant-of-self-then-spend : goal.invariant-of-self-then-spend
-invariant-of-self-then-spend c =
+pub invariant_of-self-then-spend : goal.invariant_of-self-then-spend
+invariant_of-self-then-spend c =
     let b = subst (λ r. Settled c.args.self.now (spend c.args.id c.args.n) r (cond r (c.args.self.now.connection - c.args.n) c.args.self.now.connection) (cond r (c.args.self.now.held - c.amount-amount.result) c.args.self.now.held) (set (rows_of c.args.self.now) (seek (ids (rows_of c.args.self.now)) c.args.id) c.spend.new.self)) c.if-spend.true (spends c.args.self.now c.args.id c.in-Some.account.now c.in-Some.ensures.finds c.args.n c.base-base.result c.amount-amount.result c.spend.new.self c.spend.result c.base-base.ensures c.amount-amount.ensures c.spend.ensures.answers c.spend.ensures.leaves) in
-    (b.within, ((b.few, c.args.self.now.roomy.1), (b.sums, (∣ b.fair ∣₁, tt))))
-
-pub invariant-of-self-else-spend : goal.invariant-of-self-else-spend
-invariant-of-self-else-spend c =
-    let b = subst (λ r. Settled c.args.self.now (spend c.args.id c.args.n) r (cond r (c.args.self.now.connection - c.args.n) c.args.self.now.connection) (cond r (c.args.self.now.held - c.amount-amount.result) c.args.self.now.held) (set (rows_of c.args.self.now) (seek (ids (rows_of c.args.self.now)) c.args.id) c.spend.new.self)) c.if-spend.false (spends c.args.self.now c.args.id c.in-Some.account.now c.in-Some.ensures.finds c.args.n c.base-base.result c.amount-amount.result c.spend.new.self c.spend.result c.base-base.ensures c.amount-amount.ensures c.spend.ensures.answers c.spend.ensures.leaves) in
-    (b.within, ((b.few, c.args.self.now.roomy.1), (b.sums, (∣ b.fair ∣₁, tt))))
+    record { within = b.within; roomy = (b.few, c.args.self.now.roomy.1); sums = b.sums; fair = ∣ b.fair ∣₁ }
 
 pub returns-in-None : goal.returns-in-None
 returns-in-None c =
