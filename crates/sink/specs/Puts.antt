@@ -1,7 +1,6 @@
 -- What a put promises of any sink.
-use Rattle.std.specs.Prelude.{◌≡◌, ℕ, ◌+◌, ◌-◌, Bool, true, false, ◌&&◌, leb, List, length, is_ok, Ok, Err, Result, nat_le}
+use Rattle.std.specs.Prelude.{◌≡◌, ℕ, ◌+◌, ◌-◌, Bool, true, false, ◌&&◌, List, length, is_ok, Result, nat_le}
 use Rattle.sink.specs.declared.sinks.Refusal.{Refusal}
-use Rattle.sink.specs.declared.sinks.Refusal.TheVariants.{Full}
 use Rattle.sink.specs.Meaning.{Meaning, taken}
 
 -- a frame was offered to a sink s, which answered and became t: it is refused exactly where nine octets and the payload exceed the space,
@@ -17,4 +16,4 @@ pub record DidPair {S : Type 0} (meaning : S → Meaning) (took : S → ℕ → 
   pub answers : is_ok r ≡ (nat_le (9 + length first) (meaning s).space && nat_le (9 + length second) ((meaning s).space - (9 + length first)))
   pub both : is_ok r ≡ true → (between : S) × took s id false first between × took between id true second t
   pub one : is_ok r ≡ false → nat_le (9 + length first) (meaning s).space ≡ true → took s id false first t
-  pub none : leb (9 + length first) (meaning s).space ≡ false → t ≡ s
+  pub none : nat_le (9 + length first) (meaning s).space ≡ false → t ≡ s

@@ -1,5 +1,6 @@
 // Where DATA frames go: the interface of a sink, a sink that counts, and one that writes into memory.
 #![tactic(auto)]
+
 pub mod byte_sinks;
 pub mod counting_sinks;
 pub mod sinks;
