@@ -1,4 +1,5 @@
 // Both sinks at their edges, as tables.
 #![tactic(auto)]
+
 #[cfg(test)]
 mod puts;
