@@ -3,7 +3,6 @@ use Rattle.std.specs.Prelude.{◌≡◌, ℕ, suc, ◌<◌, false, ◌⊎◌, Li
 use Rattle.std.proofs.Common.{arith, sym, ◌∙◌, ap, ⊎_elim, eq-eqb, ne_eqb}
 use Rattle.std.specs.Option.{option_map}
 use Rattle.std.proofs.lemmas.Bool.{cases_eq}
-use Rattle.std.proofs.lemmas.Bool.Decides.{nat_tests}
 use Rattle.records.specs.Records.{seek, Absent, Finds}
 use Rattle.records.specs.Tables.{Is}
 use Rattle.records.proofs.Ids.{seek-first}

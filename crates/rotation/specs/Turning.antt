@@ -141,9 +141,8 @@ kept-after xs memory (served id n) k a =
 same-ranks : {f g : ℕ → Option Priority} {n m : ℕ} → ((q : ℕ) → f q ≡ g q) → n ≡ m → ◌≡◌ {A = Ranks} (record { rank = f; entered = n; limit = 64 }) (record { rank = g; entered = m; limit = 64 })
 same-ranks e p = λ j. record { rank = fun_ext e j; entered = p j; limit = 64 }
 
-mapped-cond : (b : Bool) (u v : Option Seat) → option_map priority_of (cond b u v) ≡ cond b (option_map priority_of u) (option_map priority_of v)
-mapped-cond true u v = refl
-mapped-cond false u v = refl
+mapped-cond : (q id : ℕ) (u v : Option Seat) → option_map priority_of (cond (q == id) u v) ≡ cond (id == q) (option_map priority_of u) (option_map priority_of v)
+mapped-cond q id u v = grind (arith, nat_tests)
 
 rank-to_end : (xs : List Seat) (id : ℕ) (o : Option Seat) → Distinct xs → seat_of xs id ≡ o → (q : ℕ) → option_map priority_of (seat_of (to_end id o xs) q) ≡ option_map priority_of (seat_of xs q)
 rank-to_end xs id None d e q = refl
@@ -157,18 +156,18 @@ rank-to_end xs id (Some x) d e q =
 -- what an accepted event makes of the meaning
 pub ranked-after : (xs : List Seat) (event : Event) → Distinct xs → Accepts (ranked xs) event → ranked (order_after xs event) ≡ after (ranked xs) event
 ranked-after xs (entered id p) d a =
-    same-ranks (λ q. ap (option_map priority_of) (seat-push xs (new_seat id p) q (mapped-none priority_of (seat_of xs id) a.0)) ∙ mapped-cond (q == id) (Some (new_seat id p)) (seat_of xs q)) (length_push xs (new_seat id p))
+    same-ranks (λ q. ap (option_map priority_of) (seat-push xs (new_seat id p) q (mapped-none priority_of (seat_of xs id) a.0)) ∙ mapped-cond q id (Some (new_seat id p)) (seat_of xs q)) (length_push xs (new_seat id p))
 ranked-after xs (altered id p) d a =
     let x = in_some xs id a in
     same-ranks
     (λ q.
     ap (option_map priority_of) (seat-altering xs id p q)
-    ∙ mapped-cond (q == id) (option_map (with_priority p) (seat_of xs id)) (seat_of xs q)
-    ∙ ap (λ o. cond (q == id) (option_map priority_of (option_map (with_priority p) o)) (option_map priority_of (seat_of xs q))) x.1)
+    ∙ mapped-cond q id (option_map (with_priority p) (seat_of xs id)) (seat_of xs q)
+    ∙ ap (λ o. cond (id == q) (option_map priority_of (option_map (with_priority p) o)) (option_map priority_of (seat_of xs q))) x.1)
     (length-altering xs id p)
 ranked-after xs (left id) d a =
     let x = in_some xs id a in
-    same-ranks (λ q. ap (option_map priority_of) (seat-without xs id q d) ∙ mapped-cond (q == id) None (seat_of xs q)) (omega (arith, length_without xs id x.0 x.1))
+    same-ranks (λ q. ap (option_map priority_of) (seat-without xs id q d) ∙ mapped-cond q id None (seat_of xs q)) (omega (arith, length_without xs id x.0 x.1))
 ranked-after xs (served id n) d a = same-ranks (rank-to_end xs id (seat_of xs id) d refl) (length-to_end xs id (seat_of xs id) refl)
 
 pub turned-means : (xs ys : List Seat) (event : Event) → Distinct xs → Turned xs event ys → ranked ys ≡ after (ranked xs) event

@@ -1,5 +1,6 @@
 // Turns and ordered, our two policies: one order of seats under two rules.
 #![tactic(auto)]
+
 pub mod rotations;
 pub mod rules;
 pub mod seats;

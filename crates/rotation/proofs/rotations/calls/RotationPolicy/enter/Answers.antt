@@ -18,7 +18,7 @@ returns g c =
     let few : length order < 64 = omega (arith, c.len.ensures, c.if-len-ge-LIMIT.false) in
     let added : Kept order memory → c.add.result ≡ true = λ kept. room order memory c.add.result kept few c.add.ensures.answers in
     let turned : Kept order memory → Turned order (entered c.args.id c.args.priority) (vec_items c.add.new.self.rows)
-    = λ kept. record { accepted = (is-out order c.args.id c.in-default.ensures, few); order = c.add.ensures.rows ∙ cond-true c.add.result _ _ (added kept) } in
+    = λ kept. record { accepted = (is-out order c.args.id c.in_default.ensures, few); order = c.add.ensures.rows ∙ cond-true c.add.result _ _ (added kept) } in
     record {
       does = λ kept. done (added kept) (turned kept).accepted (turned kept);
       keeps = λ kept. kept-turned order (vec_items c.add.new.self.rows) memory _ (entered c.args.id c.args.priority) kept (turned kept) c.add.ensures.memory;

@@ -11,7 +11,7 @@ pub returns : goal.returns
 returns g c =
     let order = vec_items c.args.self.now.table.rows in
     let rest = vec_items c.remove.new.self.rows in
-    let turned : Turned order (left c.args.id) rest = record { accepted = is_in order c.args.id _ c.in-default.ensures; order = c.remove.ensures.rows } in
+    let turned : Turned order (left c.args.id) rest = record { accepted = is_in order c.args.id _ c.in_default.ensures; order = c.remove.ensures.rows } in
     record {
       does = λ kept. done refl turned.accepted turned;
       keeps = λ kept. kept-turned order rest (vec_capacity c.args.self.now.table.rows) _ (left c.args.id) kept turned c.remove.ensures.memory;
