@@ -1,5 +1,6 @@
 // Whose turn it is under our policies: from the first call on, and after any history of calls.
 #![tactic(auto)]
+
 pub mod waits;
 pub mod worked;
 
