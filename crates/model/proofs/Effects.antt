@@ -1,6 +1,5 @@
 -- What can happen at a moment, and that every answer by the rules makes one of it happen.
-use Rattle.std.proofs.Common.{◌≡◌, ℕ, ◌+◌, ◌%◌, ◌<◌, ◌≤◌, Bool, true, false, cond, not, eqb, ltb, ◌⊎◌, List, length, drop, is_some, Some, None, Ok, Err, Option, Result, sym, refl, ap, ◌∙◌, subst, inl, inr, ⊎_elim, arith, MatchOption}
-use lib.Bits.{bit_and}
+use Rattle.std.proofs.Common.{◌≡◌, ℕ, ◌+◌, ◌%◌, ◌<◌, Bool, true, false, cond, not, eqb, ltb, ◌⊎◌, List, length, drop, Some, Ok, Err, Option, Result, sym, refl, ap, subst, inl, inr, ⊎_elim, arith}
 use Rattle.wire.specs.Faults.{not_whole, frame_size, protocol}
 use Rattle.wire.specs.declared.headers.Header.{Header}
 use Rattle.wire.specs.declared.settings.Setting.{Setting}
@@ -8,8 +7,8 @@ use Rattle.wire.specs.Frames.{field, refuse, behind, header_of, body_of, lowest_
 use Rattle.wire.specs.declared.faults.Fault.{Fault}
 use Rattle.wire.specs.declared.priorities.Priority.{Priority}
 use Rattle.credit.specs.Calls.{Accepts, raise}
-use Rattle.model.specs.Calls.{Ask, Answer, fault, answer_to, frame, opening, offer, lease, settle}
-use Rattle.model.specs.States.{Stream, State, Moment}
+use Rattle.model.specs.Calls.{Ask, Answer, answer_to, frame, opening, offer, lease, settle}
+use Rattle.model.specs.States.{Stream, Moment}
 use Rattle.model.specs.Happenings.{Happening, nothing, ending, raising, renewing, starting, skipping, ranking, offering, granting, sending, giving_back, closing, fault_does, frame_does, happened}
 use Rattle.model.specs.Rules.{IsOpen, ReadyIds, grantable, Holds, TooLong, RefusesPairs, here, further, bad_window, bad_size, Answers, AnswersFrame, AnswersOpen, AnswersOffer, AnswersLease, AnswersSettle, dead, frames, opens, offers, leases, settles, unread, acknowledged, settings_refused, settings_accepted, window_idle, window_closed, window_none_connection, window_none_stream, window_over_connection, window_over_stream, window_accepted, reset_idle, reset_closed, reset_accepted, target_even, target_not_open, priority_unreadable, priority_accepted, not_ours, bad_id, full, opened, not_open, was_ended, too_much, offered, used_up, none_ready, leased, not_granted, too_long, no_space, sent, back}
 use Rattle.model.specs.declared.calls.Grant.{Grant}

@@ -1,17 +1,17 @@
 -- Grants over a run: the open ones are what gate and streams hold, and each grant has one fate.
-use Rattle.std.proofs.Common.{◌≡◌, ℕ, ◌+◌, ◌-◌, ◌<◌, ◌≤◌, Bool, true, false, cond, eqb, ◌⊎◌, List, [], ◌∷◌, is_some, Some, None, Option, sym, refl, ap, ◌∙◌, subst, inl, inr, ⊎_elim, arith, MatchOption}
+use Rattle.std.proofs.Common.{◌≡◌, ℕ, ◌+◌, ◌-◌, ◌<◌, ◌≤◌, Bool, true, false, cond, eqb, [], ◌∷◌, is_some, Some, None, Option, sym, refl, ap, ◌∙◌, subst, ⊎_elim, arith}
 use Rattle.std.specs.Option.{option_map}
 use Rattle.std.specs.List.{AllByRecursion}
 use Rattle.std.specs.Map.{update}
 use Rattle.std.proofs.lemmas.Map.{update_here, update_apart}
-use Rattle.std.proofs.lemmas.Bool.{cases_eq, true≢false}
+use Rattle.std.proofs.lemmas.Bool.{cases_eq}
 use Rattle.wire.specs.declared.priorities.Priority.{Priority}
 use Rattle.credit.specs.Credit.{Credit, Meaning, amount, held_by}
 use Rattle.credit.specs.Calls.{raise, initial, raised, shifted, holding, spent, with_stream}
 use Rattle.credit.specs.Calls.{after as credit-after}
 use Rattle.model.specs.States.{Stream, State, Moment}
-use Rattle.model.specs.Happenings.{Happening, nothing, ending, raising, renewing, starting, skipping, ranking, offering, granting, sending, giving_back, closing, after, upon, queued, granted, settled_by}
-use Rattle.model.specs.Histories.{Tale, on, open_grants, total, total_on, times, times_on, without_number, without_stream, given_in, settled_times, voided_times}
+use Rattle.model.specs.Happenings.{Happening, starting, granting, closing, after, upon, queued, granted, settled_by}
+use Rattle.model.specs.Histories.{Tale, on, open_grants, total, total_on, times, without_stream, settled_times, voided_times}
 use Rattle.model.specs.Laws.{Fresh, Meant}
 use Rattle.schedule.specs.Ranks.{Least, Chosen}
 use Rattle.model.specs.Rules.{Holds, Ready, ReadyStream}
@@ -149,17 +149,17 @@ gone-grants es e s t id k same fate held others here opens given =
 
 -- what the streams' open grants are after a change at one of them
 granted-opens : (f : ℕ → Option Stream) (id number : ℕ) (x : Stream) → f id ≡ Some x → (q : ℕ) → grant_of (update eqb f id (option_map (granted number) (f id)) q) ≡ update eqb (λ k. grant_of (f k)) id (Some number) q
-granted-opens f id number x e q = elim (eqb q id) as (λ b. grant_of (cond b (option_map (granted number) (f id)) (f q)) ≡ cond b (Some number) (grant_of (f q))) [ true ↦ ap (λ o. grant_of (option_map (granted number) o)) e | false ↦ refl ]
+granted-opens f id number x e q = elim (eqb id q) as (λ b. grant_of (cond b (option_map (granted number) (f id)) (f q)) ≡ cond b (Some number) (grant_of (f q))) [ true ↦ ap (λ o. grant_of (option_map (granted number) o)) e | false ↦ refl ]
 
 settled-opens : (f : ℕ → Option Stream) (id n q : ℕ) → grant_of (update eqb f id (option_map (settled_by n) (f id)) q) ≡ update eqb (λ k. grant_of (f k)) id None q
-settled-opens f id n q = elim (eqb q id) as (λ b. grant_of (cond b (option_map (settled_by n) (f id)) (f q)) ≡ cond b None (grant_of (f q))) [ true ↦ none (f id) | false ↦ refl ]
+settled-opens f id n q = elim (eqb id q) as (λ b. grant_of (cond b (option_map (settled_by n) (f id)) (f q)) ≡ cond b None (grant_of (f q))) [ true ↦ none (f id) | false ↦ refl ]
   where
     none : (o : Option Stream) → grant_of (option_map (settled_by n) o) ≡ None
     none None = refl
     none (Some x) = refl
 
 closed-opens : (f : ℕ → Option Stream) (id q : ℕ) → grant_of (update eqb f id None q) ≡ update eqb (λ k. grant_of (f k)) id None q
-closed-opens f id q = elim (eqb q id) as (λ b. grant_of (cond b None (f q)) ≡ cond b None (grant_of (f q))) [ true ↦ refl | false ↦ refl ]
+closed-opens f id q = elim (eqb id q) as (λ b. grant_of (cond b None (f q)) ≡ cond b None (grant_of (f q))) [ true ↦ refl | false ↦ refl ]
 
 -- what streams hold after a change at one of them
 held-apart : (f : ℕ → Option Credit) (id : ℕ) (o : Option Credit) (q : ℕ) → (q ≡ id → ⊥) → held_by (update eqb f id o q) ≡ held_by (f q)

@@ -1,19 +1,19 @@
 -- The credit law, by induction over the history.
-use Rattle.std.proofs.Common.{◌≡◌, ℕ, ◌+◌, ◌-◌, ◌<◌, ◌≤◌, Bool, true, false, List, [], ◌∷◌, pos, is_some, is_ok, Some, None, Option, sym, refl, ap, ◌∙◌, subst, arith, MatchOption}
+use Rattle.std.proofs.Common.{◌≡◌, ℕ, ◌+◌, ◌<◌, ◌≤◌, true, false, List, [], ◌∷◌, is_some, is_ok, Some, None, Option, sym, refl, ap, ◌∙◌, subst, arith, MatchOption}
 use Rattle.std.proofs.lemmas.Int.{ints}
-use Rattle.std.proofs.lemmas.Bool.{true≢false, false≢true}
+use Rattle.std.proofs.lemmas.Bool.{true≢false}
 use Rattle.wire.specs.Urgencies.{urgency_number}
 use Rattle.wire.specs.declared.priorities.Priority.{Priority}
-use Rattle.schedule.specs.Ranks.{Listed, Least, Chosen}
+use Rattle.schedule.specs.Ranks.{Least, Chosen}
 use Rattle.credit.specs.Credit.{Credit, held_by}
 use Rattle.model.specs.Calls.{Ask, lease, Answer}
 use Rattle.model.specs.States.{Stream, State, Moment, Paired, Tied}
 use Rattle.model.specs.Happenings.{Happening, happened, after}
 use Rattle.model.specs.Histories.{History, start, call, Tale, tale_of, open_in, priority_in, live_in, given_in, total_on, open_grants}
-use Rattle.model.specs.Laws.{Meant, Fresh, Step, Runs, EachWithin, Balances, Law, FairGrant, FairLease, Fair, number_or_8, Every-run, Spot, Reached, Lawful, GoesOn, Steps}
-use Rattle.model.specs.Rules.{Answers, AnswersLease, dead, leases, used_up, none_ready, leased, Ready, ReadyStream, ReadyIds, grantable}
+use Rattle.model.specs.Laws.{Meant, Fresh, Runs, EachWithin, Balances, Law, FairGrant, FairLease, Fair, Every-run, Spot, GoesOn, Steps}
+use Rattle.model.specs.Rules.{Answers, dead, leases, used_up, none_ready, leased, Ready, ReadyStream, grantable}
 use Rattle.model.specs.declared.calls.Grant.{Grant}
-use Rattle.model.proofs.Points.{none-some, some_is, some_of, some_same, none_is, cases-is, cases_of}
+use Rattle.model.proofs.Points.{none-some, some_is, some_of, some_same, cases-is, cases_of}
 use Rattle.model.proofs.Effects.{Effect, Leases, quiet, ends, raises, renews, closes, ranks, starts, skips, queues, grants, sends, backs, effect}
 use Rattle.model.proofs.Ties.{Ties, ties-after, ties-fresh, tied_of}
 use Rattle.model.proofs.Windows.{Money, Window, money-after, money-fresh, within-after}

@@ -1,20 +1,18 @@
 -- What stands together at every moment of a run: a stream's record, its credit and its rank, and what the tale tells of it.
-use Rattle.std.proofs.Common.{◌≡◌, ℕ, ◌+◌, ◌-◌, ◌<◌, ◌≤◌, Bool, true, false, cond, eqb, List, [], ◌∷◌, pos, is_some, Some, None, Option, sym, refl, ap, ◌∙◌, subst, ⊎_elim, arith, eq-eqb, ne_eqb, MatchOption}
+use Rattle.std.proofs.Common.{◌≡◌, ℕ, ◌+◌, ◌-◌, ◌<◌, Bool, true, false, cond, eqb, [], ◌∷◌, pos, is_some, Some, None, Option, sym, refl, ap, ◌∙◌, subst, arith}
 use Rattle.std.specs.Option.{option_map}
 use Rattle.std.specs.Map.{update}
-use Rattle.std.proofs.lemmas.Bool.{cases_eq, true≢false, false≢true}
-use Rattle.wire.specs.declared.priorities.Priority.{Priority}
-use Rattle.credit.specs.Credit.{Credit, Meaning, amount, held_by}
-use Rattle.credit.specs.Calls.{Accepts, raise, initial, raised, shifted, holding, spent, with_stream}
+use Rattle.std.proofs.lemmas.Bool.{false≢true}
+use Rattle.credit.specs.Credit.{Credit, Meaning}
+use Rattle.credit.specs.Calls.{raise, initial, raised, shifted, holding, spent, with_stream}
 use Rattle.credit.specs.Calls.{after as credit-after}
 use Rattle.model.specs.States.{Stream, State, Moment, Paired, Tied}
-use Rattle.model.specs.Happenings.{Happening, nothing, ending, raising, renewing, starting, skipping, ranking, offering, granting, sending, giving_back, closing, after, upon, queued, granted, settled_by}
+use Rattle.model.specs.Happenings.{Happening, closing, after, upon, queued, granted, settled_by}
 use Rattle.model.specs.Histories.{Tale, open_in, priority_in, frame_size_in, given_in, live_in}
-use Rattle.model.specs.Laws.{Meant, Fresh}
+use Rattle.model.specs.Laws.{Fresh}
 use Rattle.model.specs.Rules.{IsOpen}
-use Rattle.model.specs.declared.calls.Grant.{Grant}
-use Rattle.model.proofs.Points.{at_each, at_both, none-some, some_is, none_is, is_none, some_of, some_same, some_mapped, cases-is}
-use Rattle.model.proofs.Effects.{Effect, quiet, ends, raises, renews, closes, ranks, starts, skips, queues, grants, sends, backs, Leases}
+use Rattle.model.proofs.Points.{either-way, at_each, at_both, none-some, some_is, none_is, is_none, some_same, some_mapped}
+use Rattle.model.proofs.Effects.{Effect, quiet, ends, raises, renews, closes, ranks, starts, skips, queues, grants, sends, backs}
 
 -- a settle that closes nothing
 abbrev pub settling : ℕ → ℕ → ℕ → Option Bool → Happening
@@ -115,8 +113,10 @@ close-ties es s id is k =
       below = λ q l. at_each (λ i o. s.highest < i → o ≡ None) s.streams id None (λ _. refl) (λ i n. k.below i) q l;
       begun = ap (λ n. n - 1) k.begun;
       entered = ap (λ n. n - 1) k.entered;
-      opened = λ q. elim (eqb q id) as (λ b. is_some (cond b None (s.streams q)) ≡ cond b false (open_in q es)) [ true ↦ refl | false ↦ k.opened q ];
-      urgencies = λ q. elim (eqb q id) as (λ b. is_some (cond b None (s.streams q)) ≡ true → cond b None (s.ranks.rank q) ≡ priority_in q es) [ true ↦ (λ i. absurd (false≢true i)) | false ↦ k.urgencies q ];
+      opened = λ q.
+          subst (λ c. is_some (cond c None (s.streams q)) ≡ cond (eqb q id) false (open_in q es)) (either-way q id)
+          (elim (eqb q id) as (λ b. is_some (cond b None (s.streams q)) ≡ cond b false (open_in q es)) [ true ↦ refl | false ↦ k.opened q ]);
+      urgencies = λ q. elim (eqb id q) as (λ b. is_some (cond b None (s.streams q)) ≡ true → cond b None (s.ranks.rank q) ≡ priority_in q es) [ true ↦ (λ i. absurd (false≢true i)) | false ↦ k.urgencies q ];
       frame_size = k.frame_size;
       given = k.given;
       live = k.live;
@@ -179,7 +179,9 @@ ties-after es m e k (ranks id p is) =
       begun = k.begun;
       entered = k.entered;
       opened = k.opened;
-      urgencies = λ q i. elim (eqb q id) as (λ b. cond b (Some p) (s.ranks.rank q) ≡ cond b (Some p) (priority_in q es)) [ true ↦ refl | false ↦ k.urgencies q i ];
+      urgencies = λ q i.
+          subst (λ c. cond c (Some p) (s.ranks.rank q) ≡ cond (eqb q id) (Some p) (priority_in q es)) (either-way q id)
+          (elim (eqb q id) as (λ b. cond b (Some p) (s.ranks.rank q) ≡ cond b (Some p) (priority_in q es)) [ true ↦ refl | false ↦ k.urgencies q i ]);
       frame_size = k.frame_size;
       given = k.given;
       live = k.live;
@@ -192,8 +194,12 @@ ties-after es m e k (starts id p above) =
       below = λ q l. at_each (λ i o. id < i → o ≡ None) s.streams id (Some fresh-stream) (λ l₁. absurd (omega arith)) (λ i n l₁. k.below i (omega arith)) q l;
       begun = ap (λ n. n + 1) k.begun;
       entered = ap (λ n. n + 1) k.entered;
-      opened = λ q. elim (eqb q id) as (λ b. is_some (cond b (Some fresh-stream) (s.streams q)) ≡ cond b true (open_in q es)) [ true ↦ refl | false ↦ k.opened q ];
-      urgencies = λ q. elim (eqb q id) as (λ b. is_some (cond b (Some fresh-stream) (s.streams q)) ≡ true → cond b (Some p) (s.ranks.rank q) ≡ cond b (Some p) (priority_in q es)) [ true ↦ (λ i. refl) | false ↦ k.urgencies q ];
+      opened = λ q.
+          subst (λ c. is_some (cond c (Some fresh-stream) (s.streams q)) ≡ cond (eqb q id) true (open_in q es)) (either-way q id)
+          (elim (eqb q id) as (λ b. is_some (cond b (Some fresh-stream) (s.streams q)) ≡ cond b true (open_in q es)) [ true ↦ refl | false ↦ k.opened q ]);
+      urgencies = λ q.
+          subst (λ c. is_some (cond c (Some fresh-stream) (s.streams q)) ≡ true → cond c (Some p) (s.ranks.rank q) ≡ cond (eqb q id) (Some p) (priority_in q es)) (either-way q id)
+          (elim (eqb q id) as (λ b. is_some (cond b (Some fresh-stream) (s.streams q)) ≡ true → cond b (Some p) (s.ranks.rank q) ≡ cond b (Some p) (priority_in q es)) [ true ↦ (λ i. refl) | false ↦ k.urgencies q ]);
       frame_size = k.frame_size;
       given = k.given;
       live = k.live;

@@ -1,24 +1,21 @@
 -- Windows over a run: what the tale tells of increments and octets sent, and what gate and sink mean.
-use Rattle.std.proofs.Common.{◌≡◌, ℕ, ◌+◌, ◌-◌, ◌<◌, ◌≤◌, Bool, true, false, cond, eqb, ◌⊎◌, List, [], ◌∷◌, ℤ, pos, ◌+ℤ◌, ◌-ℤ◌, ◌≤ℤ◌, ◌<ℤ◌, is_some, Some, None, Option, sym, refl, ap, ◌∙◌, subst, inl, inr, ⊎_elim, arith, eq-eqb, ne_eqb, MatchOption}
+use Rattle.std.proofs.Common.{◌≡◌, ℕ, ◌+◌, ◌<◌, ◌≤◌, Bool, true, false, eqb, ◌⊎◌, [], ◌∷◌, ℤ, pos, ◌+ℤ◌, ◌≤ℤ◌, ◌<ℤ◌, Some, None, Option, sym, refl, ap, ◌∙◌, subst, inl, inr, ⊎_elim, arith, ne_eqb, MatchOption}
 use Rattle.std.specs.Option.{option_map}
-use Rattle.std.specs.Map.{update}
-use Rattle.std.proofs.lemmas.Map.{update_apart}
 use Rattle.std.proofs.lemmas.Int.{ints, by_lt_z}
 use Rattle.std.proofs.lemmas.Bool.{cases_eq}
 use Rattle.wire.specs.declared.priorities.Priority.{Priority}
 use native.Mathlib.Decide.{dec_lt}
-use Rattle.credit.specs.Credit.{Credit, Meaning, Sound, Within, MAX, amount, held_by}
-use Rattle.credit.specs.Calls.{Accepts, raise, initial, raised, shifted, holding, spent, with_stream}
-use Rattle.credit.specs.Calls.{after as credit-after}
+use Rattle.credit.specs.Credit.{Credit, Sound, Within, MAX, held_by}
+use Rattle.credit.specs.Calls.{Accepts, raise, raised, shifted, holding, spent}
 use Rattle.model.specs.States.{Stream, State, Moment}
-use Rattle.model.specs.Happenings.{Happening, nothing, ending, raising, renewing, starting, skipping, ranking, offering, granting, sending, giving_back, closing, after, upon}
-use Rattle.model.specs.Histories.{Tale, on, increments, sent_on, sent_all, frames_put, initial_in, frame_size_in}
-use Rattle.model.specs.Laws.{Fresh, Meant, EachWithin}
-use Rattle.model.specs.Rules.{Holds, TooLong}
+use Rattle.model.specs.Happenings.{Happening, nothing, ending, raising, renewing, starting, skipping, ranking, offering, granting, sending, giving_back, closing, after}
+use Rattle.model.specs.Histories.{Tale, on, increments, sent_on, sent_all, frames_put, initial_in}
+use Rattle.model.specs.Laws.{Fresh, EachWithin}
+use Rattle.model.specs.Rules.{TooLong}
 use Rattle.model.specs.declared.calls.Grant.{Grant}
-use Rattle.model.proofs.Points.{on_same, on-other, on-most, at_each, none-some, cases-is, some_same}
+use Rattle.model.proofs.Points.{on_same, on-other, on-most, at_each, none-some, cases-is}
 use Rattle.model.proofs.Effects.{Effect, quiet, ends, raises, renews, closes, ranks, starts, skips, queues, grants, sends, backs}
-use Rattle.model.proofs.Ties.{Ties, settling, paired-some, paired_none, paired-open}
+use Rattle.model.proofs.Ties.{Ties, settling, paired-some, paired_none}
 
 -- a stream's window and what was sent on it are the initial window in force and its increments
 abbrev pub Window : Tale → ℕ → Option Credit → Type 0

@@ -1,8 +1,8 @@
 -- A history: the calls so far, each with its answer, the latest last; and what it tells, with no word of any state.
-use Rattle.std.specs.Prelude.{◌≡◌, ℕ, ◌+◌, ◌<◌, ◌≤◌, Bool, true, false, cond, List, [], ◌∷◌, Some, None, Option, ◌==◌}
+use Rattle.std.specs.Prelude.{ℕ, ◌+◌, Bool, true, false, cond, List, [], ◌∷◌, Some, None, Option, ◌==◌}
 use Rattle.wire.specs.declared.priorities.Priority.{Priority}
 use Rattle.model.specs.Calls.{Ask, Answer}
-use Rattle.model.specs.Happenings.{Happening, Settled, happened, upon, grown, counted}
+use Rattle.model.specs.Happenings.{Happening, happened, upon, grown, counted}
 use Rattle.model.specs.declared.calls.Grant.{Grant}
 
 pub data History : Type 0 where

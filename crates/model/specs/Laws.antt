@@ -1,13 +1,13 @@
 -- The credit law over runs.
-use Rattle.std.specs.Prelude.{◌≡◌, ℕ, ◌+◌, ◌-◌, ◌<◌, ◌≤◌, Bool, true, false, List, [], ◌∷◌, ℤ, pos, ◌+ℤ◌, is_some, IfSome, is_ok, Some, None, Option, MatchOption}
+use Rattle.std.specs.Prelude.{◌≡◌, ℕ, ◌+◌, ◌<◌, ◌≤◌, true, false, List, [], ◌∷◌, pos, ◌+ℤ◌, is_some, IfSome, is_ok, Some, None, Option, MatchOption}
 use Rattle.wire.specs.Urgencies.{urgency_number}
 use Rattle.wire.specs.declared.priorities.Priority.{Priority}
 use Rattle.credit.specs.Credit as credit
 use Rattle.schedule.specs.Ranks as schedule
 use Rattle.sink.specs.Meaning as sink
 use Rattle.model.specs.Calls.{Ask, lease, Answer}
-use Rattle.model.specs.States.{Stream, State, Moment, Tied}
-use Rattle.model.specs.Happenings.{Happening, Settled, happened, after}
+use Rattle.model.specs.States.{State, Moment, Tied}
+use Rattle.model.specs.Happenings.{Settled, happened, after}
 use Rattle.model.specs.Histories.{History, start, call, Tale, tale_of, increments, sent_on, sent_all, frames_put, initial_in, frame_size_in, live_in, open_in, priority_in, given_in, open_grants, total, total_on, times, settled_times, voided_times}
 use Rattle.model.specs.Rules.{Answers, Ready, grantable}
 use Rattle.model.specs.declared.calls.Grant.{Grant}

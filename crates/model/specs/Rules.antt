@@ -13,7 +13,6 @@ use Rattle.credit.specs.Calls.{Accepts, raise, initial, raised}
 use Rattle.schedule.specs.Ranks.{Listed}
 use Rattle.model.specs.Calls.{Ask, frame, opening, offer, lease, settle, Answer, fault, answer_to}
 use Rattle.model.specs.States.{Stream, State, Moment}
-use Rattle.model.specs.declared.calls.Done.{Done}
 use Rattle.model.specs.declared.calls.Done.TheVariants.{Opened, Offered, Granted, Sent, Back}
 
 -- an id is open; closed, if it is odd, not above the highest, and not open; or idle, if it is none of these and not 0

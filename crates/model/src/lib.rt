@@ -1,5 +1,6 @@
 // What the sending half of a connection is asked and answers, the rules that it follows, and the credit law over histories.
 #![tactic(auto)]
+
 pub mod calls;
 pub mod laws;
 
