@@ -1,12 +1,11 @@
 -- The record of one open stream is lent and changed.
-use Rattle.std.proofs.Common.{◌≡◌, ℕ, ◌+◌, ◌<◌, ◌≤◌, Bool, true, false, cond, ◌||◌, eqb, ◌⊎◌, List, map, length, set, Some, None, Ok, Err, Option, Result, sym, refl, ap, ◌∙◌, subst, inl, inr, ⊎_elim, arith, length-set}
+use Rattle.std.proofs.Common.{◌≡◌, ℕ, ◌+◌, Bool, false, ◌||◌, eqb, List, map, length, set, Some, None, Ok, Err, Option, Result, sym, refl, ap, ◌∙◌, ⊎_elim, length-set}
 use Rattle.std.specs.Option.{option_map}
 use Rattle.std.specs.Map.{update}
 use Rattle.records.specs.Records.{seek}
 use Rattle.records.specs.Tables.{Is}
 use Rattle.records.proofs.Lookups.{record-found}
 use Rattle.wire.specs.declared.faults.Fault.{Fault}
-use Rattle.credit.specs.Credit.{MAX}
 use Rattle.model.specs.Calls.{fault, offer}
 use Rattle.model.specs.Happenings.{after, amended, queued, happened}
 use Rattle.model.specs.Rules.{AnswersOffer, was_ended, too_much, offered}

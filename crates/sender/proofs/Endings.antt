@@ -1,5 +1,5 @@
 -- What a frame leaves, and how a fault ends the connection.
-use Rattle.std.proofs.Common.{◌≡◌, ℕ, Bool, true, false, cond, ◌||◌, eqb, ◌⊎◌, List, Ok, Err, Result, sym, refl, ap, ◌∙◌, subst, inl, inr, ⊎_elim}
+use Rattle.std.proofs.Common.{◌≡◌, ℕ, Bool, true, false, cond, ◌||◌, eqb, List, Ok, Err, Result, sym, refl, ap, ◌∙◌, subst, ⊎_elim}
 use Rattle.wire.specs.Frames.{Told, told_frame, settings, settings_ack, window_update, reset_stream, priority_update, other, frame_of}
 use Rattle.wire.specs.declared.faults.Fault.{Fault}
 use Rattle.wire.specs.declared.frames.Frame.{Frame}
@@ -7,7 +7,7 @@ use Rattle.wire.specs.declared.frames.Frame.TheVariants.{Settings, SettingsAck, 
 use Rattle.wire.specs.declared.settings.Setting.{Setting}
 use Rattle.wire.proofs.PairSteps.{settings-end}
 use Rattle.model.specs.Calls.{frame}
-use Rattle.model.specs.Happenings.{Happening, nothing, ending, closing, skipping, after, frame_does, fault_does, done_does, happened}
+use Rattle.model.specs.Happenings.{Happening, nothing, ending, closing, skipping, after, frame_does, fault_does, happened}
 use Rattle.model.specs.Rules.{AnswersFrame, RefusesPairs, here, further, bad_window, bad_size, settings_refused, window_idle, window_none_connection, window_none_stream, window_over_connection, window_over_stream, reset_idle, target_even, priority_unreadable}
 use Rattle.model.specs.States.{State, Moment}
 use Rattle.model.specs.declared.calls.Done.{Done}

@@ -1,10 +1,8 @@
 -- A new initial window, stream by stream and pair by pair.
-use Rattle.std.proofs.Common.{◌≡◌, ℕ, zero, suc, ◌+◌, ◌<◌, ◌≤◌, Bool, true, false, cond, eqb, List, [], ◌∷◌, map, length, get_or, ℤ, pos, ◌+ℤ◌, ◌-ℤ◌, ◌≤ℤ◌, is_some, IfSome, Some, None, Err, Decides, Option, sym, refl, ap, ◌∙◌, subst, ⊎_elim, arith, eq-eqb, ne_eqb}
-use Rattle.std.specs.Option.{option_map}
+use Rattle.std.proofs.Common.{◌≡◌, ℕ, suc, ◌<◌, ◌≤◌, Bool, true, false, cond, eqb, List, [], ◌∷◌, map, length, get_or, ℤ, pos, ◌+ℤ◌, ◌-ℤ◌, ◌≤ℤ◌, is_some, IfSome, Some, None, Err, Decides, Option, sym, refl, ap, ◌∙◌, subst, ⊎_elim, arith, eq-eqb, ne_eqb}
 use Rattle.std.specs.List.{AllByRecursion}
-use Rattle.std.proofs.lemmas.Bool.{cases_eq, true≢false, false≢true}
-use Rattle.records.specs.Tables.{record_of}
-use Rattle.credit.specs.Credit.{Credit, Meaning, MAX, window_of}
+use Rattle.std.proofs.lemmas.Bool.{cases_eq, false≢true}
+use Rattle.credit.specs.Credit.{Credit, window_of}
 use Rattle.credit.specs.Calls.{Accepts, initial, shifted}
 use Rattle.wire.specs.declared.settings.Setting.{Setting}
 use Rattle.model.specs.Happenings.{last_after, last_of}
@@ -12,10 +10,9 @@ use Rattle.wire.specs.Frames.{Told}
 use Rattle.wire.specs.declared.faults.Fault.{Fault}
 use Rattle.sender.specs.Answers.{handled}
 use Rattle.model.specs.Rules.{PassesPair, RefusesPair, RefusesPairs, here, further, bad_window, bad_size}
-use Rattle.model.specs.States.{Stream, State, Moment, Tied}
-use Rattle.model.proofs.Points.{none-some}
+use Rattle.model.specs.States.{State, Moment, Tied}
 use Rattle.model.proofs.Ties.{paired-open}
-use Rattle.sender.specs.Streams.{id_of, plain, streams_in}
+use Rattle.sender.specs.Streams.{id_of, streams_in}
 use Rattle.sender.specs.declared.streams.Stream.{Stream as Row}
 
 -- a window fits where its stream does

@@ -1,5 +1,5 @@
 -- A stream begins or ends in the gate, in the policy and in the table alike.
-use Rattle.std.proofs.Common.{◌≡◌, ℕ, ◌+◌, ◌-◌, ◌<◌, ◌≤◌, min, Bool, true, false, cond, eqb, ltb, ◌⊎◌, List, [], ◌∷◌, ◌++◌, length, is_some, Some, None, Option, sym, refl, ap, ◌∙◌, subst, inl, inr, arith}
+use Rattle.std.proofs.Common.{◌≡◌, ℕ, ◌+◌, ◌<◌, ◌≤◌, min, Bool, true, false, cond, eqb, ltb, List, [], ◌∷◌, ◌++◌, length, is_some, Some, None, Option, sym, refl, ap, ◌∙◌, inl, inr, arith}
 use mathlib.Core.Path.{fun_ext}
 use Rattle.std.specs.Option.{option_map}
 use Rattle.std.specs.Map.{update}
@@ -15,7 +15,7 @@ use Rattle.sink.specs.Meaning as sink
 use Rattle.model.specs.Happenings.{after, starting, closing}
 use Rattle.model.specs.Rules.{Full, IsOpen}
 use Rattle.model.specs.States.{Stream, State, Tied}
-use Rattle.model.proofs.Points.{is_none, some_is, some_of, some_same}
+use Rattle.model.proofs.Points.{is_none, some_is, some_of}
 use Rattle.model.proofs.Ties.{paired_none, paired-some}
 use Rattle.sender.specs.Streams.{id_of, ordered, plain, streams_in}
 use Rattle.sender.specs.declared.streams.Stream.{Stream as Row}

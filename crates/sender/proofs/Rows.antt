@@ -1,5 +1,5 @@
 -- The table of the open streams: what stays in order, and what it is as a function of ids.
-use Rattle.std.proofs.Common.{◌≡◌, ℕ, ◌+◌, ◌<◌, ◌≤◌, min, Bool, true, false, cond, ◌&&◌, eqb, ltb, leb, List, [], ◌∷◌, ◌++◌, map, length, set, is_some, Some, None, Option, sym, refl, ap, ◌∙◌, subst, ⊎_elim, arith, eq-eqb, ne_eqb}
+use Rattle.std.proofs.Common.{◌≡◌, ℕ, ◌<◌, ◌≤◌, min, Bool, true, false, cond, eqb, ltb, List, [], ◌∷◌, ◌++◌, map, length, set, Some, None, Option, sym, refl, ap, ◌∙◌, subst, ⊎_elim, arith, eq-eqb, ne_eqb}
 use Rattle.std.specs.Option.{option_map}
 use Rattle.std.specs.Map.{update}
 use Rattle.std.proofs.lemmas.List.{length_push}
@@ -8,6 +8,7 @@ use Rattle.std.proofs.lemmas.Bool.Decides.{nat_tests}
 use Rattle.records.specs.Records.{seek}
 use Rattle.records.specs.Tables.{without, record_of, Distinct}
 use Rattle.records.proofs.Lookups.{record-push, record-set, record-without}
+use Rattle.model.proofs.Points.{either-way}
 use Rattle.sender.specs.Streams.{id_of, ordered, plain, streams_in}
 use Rattle.sender.specs.declared.streams.Stream.{Stream}
 
@@ -59,13 +60,13 @@ mapped-cond true u v = refl
 mapped-cond false u v = refl
 
 pub streams-push : (xs : List Stream) (x : Stream) (q : ℕ) → record_of id_of xs x.id ≡ None → streams_in (xs ++ x ∷ []) q ≡ update eqb (streams_in xs) x.id (Some (plain x)) q
-streams-push xs x q h = ap (option_map plain) (record-push id_of xs x q h) ∙ mapped-cond (eqb q x.id) (Some x) (record_of id_of xs q)
+streams-push xs x q h = ap (option_map plain) (record-push id_of xs x q h) ∙ mapped-cond (eqb q x.id) (Some x) (record_of id_of xs q) ∙ ap (λ b. cond b (Some (plain x)) (streams_in xs q)) (either-way q x.id)
 
 pub streams-set : (xs : List Stream) (id : ℕ) (x : Stream) (q : ℕ) → x.id ≡ id → seek (map id_of xs) id < length xs → streams_in (set xs (seek (map id_of xs) id) x) q ≡ update eqb (streams_in xs) id (Some (plain x)) q
-streams-set xs id x q e l = ap (option_map plain) (record-set id_of xs id x q e l) ∙ mapped-cond (eqb q id) (Some x) (record_of id_of xs q)
+streams-set xs id x q e l = ap (option_map plain) (record-set id_of xs id x q e l) ∙ mapped-cond (eqb q id) (Some x) (record_of id_of xs q) ∙ ap (λ b. cond b (Some (plain x)) (streams_in xs q)) (either-way q id)
 
 pub streams-without : (xs : List Stream) (id q : ℕ) → Distinct id_of xs → streams_in (without id_of id xs) q ≡ update eqb (streams_in xs) id None q
-streams-without xs id q d = ap (option_map plain) (record-without id_of xs id q d) ∙ mapped-cond (eqb q id) None (record_of id_of xs q)
+streams-without xs id q d = ap (option_map plain) (record-without id_of xs id q d) ∙ mapped-cond (eqb q id) None (record_of id_of xs q) ∙ ap (λ b. cond b None (streams_in xs q)) (either-way q id)
 
 -- what the table keeps when a record is added, and when one is taken out
 pub grown-few : (xs ys : List Stream) (cap : ℕ) (x : Stream) (a : Bool) → length xs ≤ 64 → a ≡ ltb (length xs) (min 64 cap) → ys ≡ cond a (xs ++ x ∷ []) xs → length ys ≤ 64

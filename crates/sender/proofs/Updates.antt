@@ -1,5 +1,5 @@
 -- What WINDOW_UPDATE, RST_STREAM and PRIORITY_UPDATE find.
-use Rattle.std.proofs.Common.{◌≡◌, ℕ, ◌+◌, ◌<◌, ◌≤◌, Bool, true, false, cond, eqb, List, map, pos, ◌≤ℤ◌, ◌<ℤ◌, is_some, Some, None, Ok, Err, Option, Result, sym, refl, ap, ◌∙◌, subst, arith, ne_eqb, MatchOption}
+use Rattle.std.proofs.Common.{◌≡◌, ℕ, true, false, eqb, List, map, pos, ◌≤ℤ◌, ◌<ℤ◌, is_some, Some, None, Ok, Err, Option, Result, refl, ap, ◌∙◌, arith, ne_eqb, MatchOption}
 use Rattle.std.specs.Option.{option_map, ok_or}
 use Rattle.std.proofs.lemmas.Int.{by_lt_z}
 use Rattle.records.specs.Records.{Absent}

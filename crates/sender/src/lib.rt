@@ -1,5 +1,6 @@
 // The sending half of one connection, written once above any gate and any policy.
 #![tactic(auto)]
+
 pub mod connections;
 pub mod streams;
 

@@ -1,16 +1,17 @@
-use Rattle.std.proofs.Common.{◌≤◌, [], ◌∷◌, ◌++◌, length, vec_items, vec_capacity, sym, refl, ap, ◌∙◌, subst, arith}
+use Rattle.std.proofs.Common.{vec_items, vec_capacity, refl, arith}
 use Rattle.sender.proofs.Moves.{new_row, begin-state}
 use Rattle.sender.proofs.Rows.{grown-ordered, grown-few}
 use Rattle.sender.proofs.connections.Connection.begin.Goals as goal
 
-pub invariant-of-self : goal.invariant-of-self
-invariant-of-self g c =
+pub invariant_of-self : goal.invariant_of-self
+invariant_of-self g c =
     let s = c.args.self.now in
     let xs = vec_items s.streams.rows in
-    let added = c.add.ensures in (
-      (grown-few xs _ (vec_capacity s.streams.rows) (new_row c.args.id) c.add.result s.few.0 added.answers added.rows, omega (arith, added.memory, s.few.1)),
-      (grown-ordered xs _ s.highest (new_row c.args.id) c.add.result c.requires s.order added.rows, tt),
-    )
+    let added = c.add.ensures in
+    record {
+      few = (grown-few xs _ (vec_capacity s.streams.rows) (new_row c.args.id) c.add.result s.few.0 added.answers added.rows, omega (arith, added.memory, s.few.1));
+      order = grown-ordered xs _ s.highest (new_row c.args.id) c.add.result c.requires s.order added.rows;
+    }
 
 pub returns : goal.returns
 returns g c k gated ruled tied unfull =

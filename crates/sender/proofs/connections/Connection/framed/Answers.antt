@@ -1,4 +1,4 @@
-use Rattle.std.proofs.Common.{◌≡◌, sym, refl, ap, ◌∙◌, subst}
+use Rattle.std.proofs.Common.{sym, refl, ◌∙◌}
 use Rattle.std.proofs.lemmas.Result.{err_from_is_err_and}
 use Rattle.model.specs.Rules.{dead}
 use Rattle.model.specs.Calls.{frame}
@@ -13,12 +13,12 @@ returns-in_err-alive g c =
     let a = c.in_err-alive.ensures in
     rw (p.1, p.2, a.1) (λ k valid tied meant. (dead a.0, refl, valid))
 
-pub returns-then-ends-connection : goal.returns-then-ends-connection
-returns-then-ends-connection g c k valid tied meant =
+pub returns-then-ends_connection : goal.returns-then-ends_connection
+returns-then-ends_connection g c k valid tied meant =
     let h = c.received-answer.ensures k c.in_ok-alive.ensures valid tied meant in
-    (h.0, final-state (state_of g.G.Gate.meaning g.P.Policy.ranks c.args.self.now k) (state_of g.G.Gate.meaning g.P.Policy.ranks c.received-answer.new.self k) (happened (frame c.args.octets.now) c.received-answer.result) _ (ended_is c.args.octets.now c.received-answer.result ∙ sym c.ends-connection.ensures ∙ c.if-ends-connection.true) h.1, h.2)
+    (h.0, final-state (state_of g.G.Gate.meaning g.P.Policy.ranks c.args.self.now k) (state_of g.G.Gate.meaning g.P.Policy.ranks c.received-answer.new.self k) (happened (frame c.args.octets.now) c.received-answer.result) _ (ended_is c.args.octets.now c.received-answer.result ∙ sym c.ends_connection.ensures ∙ c.if-ends_connection.true) h.1, h.2)
 
-pub returns-else-ends-connection : goal.returns-else-ends-connection
-returns-else-ends-connection g c k valid tied meant =
+pub returns-else-ends_connection : goal.returns-else-ends_connection
+returns-else-ends_connection g c k valid tied meant =
     let h = c.received-answer.ensures k c.in_ok-alive.ensures valid tied meant in
-    (h.0, final-state (state_of g.G.Gate.meaning g.P.Policy.ranks c.args.self.now k) (state_of g.G.Gate.meaning g.P.Policy.ranks c.received-answer.new.self k) (happened (frame c.args.octets.now) c.received-answer.result) _ (ended_is c.args.octets.now c.received-answer.result ∙ sym c.ends-connection.ensures ∙ c.if-ends-connection.false) h.1, h.2)
+    (h.0, final-state (state_of g.G.Gate.meaning g.P.Policy.ranks c.args.self.now k) (state_of g.G.Gate.meaning g.P.Policy.ranks c.received-answer.new.self k) (happened (frame c.args.octets.now) c.received-answer.result) _ (ended_is c.args.octets.now c.received-answer.result ∙ sym c.ends_connection.ensures ∙ c.if-ends_connection.false) h.1, h.2)

@@ -1,4 +1,4 @@
-use Rattle.std.proofs.Common.{◌≡◌, sym, refl, ap, ◌∙◌, subst}
+use Rattle.std.proofs.Common.{refl}
 use Rattle.model.specs.Rules.{acknowledged, not_ours}
 use Rattle.sender.proofs.connections.Connection.handled.Goals as goal
 
@@ -9,13 +9,13 @@ pub returns-in-SettingsAck : goal.returns-in-SettingsAck
 returns-in-SettingsAck g c = rw c.in-SettingsAck.is (λ k valid tied meant. (acknowledged, refl, valid))
 
 pub returns-in-WindowUpdate : goal.returns-in-WindowUpdate
-returns-in-WindowUpdate g c = rw c.in-WindowUpdate.is c.window-update.ensures
+returns-in-WindowUpdate g c = rw c.in-WindowUpdate.is c.window_update.ensures
 
 pub returns-in-ResetStream : goal.returns-in-ResetStream
-returns-in-ResetStream g c = rw c.in-ResetStream.is c.reset-stream.ensures
+returns-in-ResetStream g c = rw c.in-ResetStream.is c.reset_stream.ensures
 
 pub returns-in-PriorityUpdate : goal.returns-in-PriorityUpdate
-returns-in-PriorityUpdate g c = rw c.in-PriorityUpdate.is c.priority-update.ensures
+returns-in-PriorityUpdate g c = rw c.in-PriorityUpdate.is c.priority_update.ensures
 
 pub returns-in-Other : goal.returns-in-Other
 returns-in-Other g c = rw c.in-Other.is (λ k valid tied meant. (not_ours, refl, valid))

@@ -1,4 +1,4 @@
-use Rattle.std.proofs.Common.{map, vec_items, sym, refl, ap, ◌∙◌, subst, arith, length-set}
+use Rattle.std.proofs.Common.{map, vec_items, refl, ap, ◌∙◌, arith, length-set}
 use Rattle.records.specs.Records.{seek}
 use Rattle.sender.specs.Connections.{state_of}
 use Rattle.sender.proofs.Changes.{offers-named, offers-state}
@@ -19,12 +19,12 @@ returns-in_err-alive g c =
 pub returns-in-None : goal.returns-in-None
 returns-in-None g c = rw c.refusal.ensures (λ k valid tied meant. (offers c.in_ok-alive.ensures (not_open (ap (option_map plain) (record-absent id_of (vec_items c.args.self.now.streams.rows) c.args.id c.in-None.ensures.finds))), refl, valid))
 
-pub invariant-of-self-in-Some : goal.invariant-of-self-in-Some
-invariant-of-self-in-Some g c =
+pub invariant_of-self-in-Some : goal.invariant_of-self-in-Some
+invariant_of-self-in-Some g c =
     let s = c.args.self.now in
     let xs = vec_items s.streams.rows in
     let is = c.in-Some.ensures.finds in
-    ((omega (arith, length-set xs (seek (map id_of xs) c.args.id) c.offer.new.self, s.few.0), s.few.1), (ordered-set 0 s.highest c.args.id xs c.offer.new.self (offers-named c.in-Some.stream.now c.args.octets c.args.end c.offer.result c.offer.new.self c.offer.ensures ∙ is.named) is.there s.order, tt))
+    record { few = (omega (arith, length-set xs (seek (map id_of xs) c.args.id) c.offer.new.self, s.few.0), s.few.1); order = ordered-set 0 s.highest c.args.id xs c.offer.new.self (offers-named c.in-Some.stream.now c.args.octets c.args.end c.offer.result c.offer.new.self c.offer.ensures ∙ is.named) is.there s.order }
 
 pub returns-in-Some : goal.returns-in-Some
 returns-in-Some g c k valid tied meant =

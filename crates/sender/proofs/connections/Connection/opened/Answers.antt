@@ -1,4 +1,4 @@
-use Rattle.std.proofs.Common.{◌≤◌, true, vec_items, sym, refl, ap, ◌∙◌, subst, inl, inr, arith}
+use Rattle.std.proofs.Common.{vec_items, sym, refl, ◌∙◌, arith}
 use Rattle.std.proofs.lemmas.Result.{err_from_is_err_and}
 use Rattle.std.proofs.lemmas.Bool.{true≢false}
 use Rattle.sender.specs.Connections.{state_of}
@@ -18,11 +18,11 @@ returns-in_err-openable g c =
     let a = c.in_err-openable.ensures in
     rw (p.1, p.2, a.1) (λ k valid tied meant. (opens c.in_ok-alive.ensures (bad_id a.0), refl, valid))
 
-pub invariant-of-self : goal.invariant-of-self
-invariant-of-self g c =
+pub invariant_of-self : goal.invariant_of-self
+invariant_of-self g c =
     let s = c.args.self.now in
     let a = c.in_ok-openable.ensures in
-    (s.few, (ordered-wider 0 0 s.highest c.args.id (vec_items s.streams.rows) (omega arith) (omega arith) s.order, tt))
+    record { few = s.few; order = ordered-wider 0 0 s.highest c.args.id (vec_items s.streams.rows) (omega arith) (omega arith) s.order }
 
 pub returns-then-full : goal.returns-then-full
 returns-then-full g c =
@@ -37,4 +37,4 @@ returns g c k valid tied meant =
     let a = c.in_ok-openable.ensures in
     let unfull : Full (state_of g.G.Gate.meaning g.P.Policy.ranks c.args.self.now k) → ⊥ = λ h. true≢false (sym ((c.full.ensures k valid.0 valid.1).1 h) ∙ c.if-full.false) in
     let b = c.begin.ensures k valid.0 valid.1 tied unfull in
-    (rw c.first-priority-priority.ensures (opens c.in_ok-alive.ensures (opened (record { odd = a.0; fits = a.1; above = a.2 }) unfull)), b.0, (b.1, b.2))
+    (rw c.first_priority-priority.ensures (opens c.in_ok-alive.ensures (opened (record { odd = a.0; fits = a.1; above = a.2 }) unfull)), b.0, (b.1, b.2))

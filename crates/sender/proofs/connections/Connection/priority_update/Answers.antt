@@ -1,4 +1,4 @@
-use Rattle.std.proofs.Common.{◌≡◌, ◌%◌, vec_items, sym, refl, ap, ◌∙◌, subst, arith}
+use Rattle.std.proofs.Common.{◌≡◌, ◌%◌, vec_items, sym, refl, ap, ◌∙◌, arith}
 use Rattle.std.proofs.lemmas.Result.{err_from_is_err_and}
 use Rattle.model.specs.Rules.{target_even, target_not_open, priority_unreadable, priority_accepted}
 use Rattle.wire.specs.Faults.{unreadable_priority}
@@ -33,4 +33,4 @@ returns-in-Some g c k valid tied meant =
     (priority_accepted p (omega (arith, c.if-target-eq0.false)) is o, same-state refl turned (λ q. refl) refl refl refl refl ∙ ap (λ w. after state (ranking c.args.target w)) (sym o), (valid.0, c.alter.ensures.keeps valid.1))
 
 pub returns : goal.returns
-returns g c k valid tied meant = (target_not_open (omega (arith, c.if-target-eq0.false)) (row-none (vec_items c.args.self.now.streams.rows) c.args.target c.in-default.ensures), refl, valid)
+returns g c k valid tied meant = (target_not_open (omega (arith, c.if-target-eq0.false)) (row-none (vec_items c.args.self.now.streams.rows) c.args.target c.in_default.ensures), refl, valid)

@@ -1,4 +1,4 @@
-use Rattle.std.proofs.Common.{◌<◌, sym, refl, ap, ◌∙◌, subst, arith}
+use Rattle.std.proofs.Common.{◌<◌, sym, refl, ◌∙◌, arith}
 use Rattle.std.proofs.lemmas.Bool.{true≢false, cond-true, cond-false}
 use Rattle.model.specs.Rules.{window_none_connection, window_over_connection, window_accepted}
 use Rattle.sender.proofs.Moves.{same-state, not-le}

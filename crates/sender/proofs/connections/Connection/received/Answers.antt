@@ -1,9 +1,8 @@
-use Rattle.std.proofs.Common.{◌≡◌, Ok, Err, sym, refl, ap, ◌∙◌, subst}
+use Rattle.std.proofs.Common.{Ok, sym, ◌∙◌}
 use Rattle.std.proofs.lemmas.Result.{err_from_is_err_and}
 use Rattle.wire.specs.Frames.{told_frame}
 use Rattle.model.specs.Rules.{unread, frames}
 use Rattle.model.proofs.Effects.{frame-err}
-use Rattle.sender.specs.Connections.{state_of}
 use Rattle.sender.proofs.Endings.{codec-stays, fault-handled, accepted-handled, told-short}
 use Rattle.sender.proofs.connections.Connection.received.Goals as goal
 
@@ -28,7 +27,7 @@ returns-in_err-accepted g c =
 pub returns : goal.returns
 returns g c =
     let e = sym c.in_ok-frame.ensures in
-    rw (c.kind-of.ensures, c.stream-of.ensures)
+    rw (c.kind_of.ensures, c.stream_of.ensures)
     (λ k live valid tied meant.
     let h = c.in_ok-accepted.ensures k valid tied meant in
     (frames (told_frame c.in_ok-frame.frame) (Ok c.in_ok-accepted.accepted) live e h.0, h.1 ∙ accepted-handled _ c.args.octets.now (told_frame c.in_ok-frame.frame) c.in_ok-accepted.accepted e, h.2))

@@ -1,4 +1,4 @@
-use Rattle.std.proofs.Common.{sym, refl, ap, ◌∙◌, subst, inl, inr}
+use Rattle.std.proofs.Common.{refl, inl, inr}
 use Rattle.model.specs.Rules.{reset_idle, reset_closed, reset_accepted}
 use Rattle.sender.proofs.connections.Connection.reset_stream.Goals as goal
 

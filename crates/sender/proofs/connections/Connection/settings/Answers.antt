@@ -1,4 +1,4 @@
-use Rattle.std.proofs.Common.{◌≡◌, IfSome, sym, refl, ap, ◌∙◌, subst}
+use Rattle.std.proofs.Common.{IfSome, sym, ap, ◌∙◌, subst}
 use Rattle.std.proofs.lemmas.Result.{err_from_is_err_and}
 use Rattle.credit.specs.Calls.{Accepts, initial}
 use Rattle.wire.specs.Settings.{to_come}
@@ -10,12 +10,12 @@ use Rattle.sender.specs.Connections.{state_of, moment_of}
 use Rattle.sender.proofs.Initial.{last-accepted, pairs-stay}
 use Rattle.sender.proofs.connections.Connection.settings.Goals as goal
 
-pub returns-in_err-test-pairs : goal.returns-in_err-test-pairs
-returns-in_err-test-pairs g c =
+pub returns-in_err-test_pairs : goal.returns-in_err-test_pairs
+returns-in_err-test_pairs g c =
     let p = err_from_is_err_and c.from_residual.result c.from_residual.ensures.1 in
     rw (p.1, p.2)
     (λ k valid tied meant.
-    let refused = c.in_err-test-pairs.ensures k valid.0 tied in
+    let refused = c.in_err-test_pairs.ensures k valid.0 tied in
     (settings_refused refused, sym (pairs-stay _ _ (settings c.args.pairs.octets.now c.args.pairs.place) _ _ refused), valid))
 
 pub returns : goal.returns
@@ -23,8 +23,8 @@ returns g c k valid tied meant =
     let s = c.args.self.now in
     let state : State = state_of g.G.Gate.meaning g.P.Policy.ranks s k in
     let m : Moment = moment_of g.G.Gate.meaning g.G.Gate.free g.P.Policy.ranks g.P.Policy.picks s k in
-    let passes = c.in_ok-test-pairs.ensures k valid.0 tied in
-    let w = c.last-value-window.ensures in
-    let z = c.last-value-size.ensures in
+    let passes = c.in_ok-test_pairs.ensures k valid.0 tied in
+    let w = c.last_value-window.ensures in
+    let z = c.last_value-size.ensures in
     let b = c.renew.ensures k valid.0 (subst (λ o. IfSome o (λ v. Accepts state.gate m.room (initial v))) (sym w) (last-accepted m (to_come c.args.pairs) passes)) in
-    (settings_accepted passes, b.0 ∙ ap (λ o. after state (renewing o c.last-value-size.result)) w ∙ ap (λ o. after state (renewing (last_of 4 (to_come c.args.pairs)) o)) z, (b.1, subst g.P.Policy.valid (sym b.2) valid.1))
+    (settings_accepted passes, b.0 ∙ ap (λ o. after state (renewing o c.last_value-size.result)) w ∙ ap (λ o. after state (renewing (last_of 4 (to_come c.args.pairs)) o)) z, (b.1, subst g.P.Policy.valid (sym b.2) valid.1))

@@ -1,9 +1,9 @@
-use Rattle.std.proofs.Common.{sym, refl, ap, ◌∙◌, subst}
+use Rattle.std.proofs.Common.{refl}
 use Rattle.model.specs.Rules.{window_idle, window_closed}
 use Rattle.sender.proofs.connections.Connection.window_update.Goals as goal
 
 pub returns-then-id-eq0 : goal.returns-then-id-eq0
-returns-then-id-eq0 g c = rw c.if-id-eq0.true c.raise-connection.ensures
+returns-then-id-eq0 g c = rw c.if-id-eq0.true c.raise_connection.ensures
 
 pub returns-in-Idle : goal.returns-in-Idle
 returns-in-Idle g c = rw c.refusal.ensures (λ k valid tied meant. (window_idle (c.if-id-eq0.false, (c.in-Idle.ensures k).0, (c.in-Idle.ensures k).1), refl, valid))
@@ -12,4 +12,4 @@ pub returns-in-Closed : goal.returns-in-Closed
 returns-in-Closed g c k valid tied meant = (window_closed (c.in-Closed.ensures k), refl, valid)
 
 pub returns-in-Open : goal.returns-in-Open
-returns-in-Open g c k = c.raise-stream.ensures k (c.in-Open.ensures k)
+returns-in-Open g c k = c.raise_stream.ensures k (c.in-Open.ensures k)

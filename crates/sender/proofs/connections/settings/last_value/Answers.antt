@@ -1,5 +1,5 @@
-use Rattle.std.proofs.Common.{◌≡◌, None, sym, refl, ap, ◌∙◌, subst}
-use Rattle.wire.specs.Settings.{Ending, to_come}
+use Rattle.std.proofs.Common.{None, sym, ap, ◌∙◌}
+use Rattle.wire.specs.Settings.{to_come}
 use Rattle.wire.proofs.PairSteps.{next-comes, next-ends, none-comes}
 use Rattle.model.specs.Happenings.{last_after}
 use Rattle.sender.proofs.connections.settings.last_value.Goals as goal
@@ -16,4 +16,4 @@ pub returns : goal.returns
 returns c =
     let k = c.args.identifier in
     let none = none-comes c.loop-pair.pair-iterator c.next.new.self c.in-None.ensures.steps c.loop-pair.invariant.1 in
-    ap (last_after k c.loop-pair.latest) (sym none) ∙ c.loop-pair.invariant.0 ∙ ap (λ s. last_after k None (to_come s)) c.into-iter-pair-iterator.ensures.into-iter-gives
+    ap (last_after k c.loop-pair.latest) (sym none) ∙ c.loop-pair.invariant.0 ∙ ap (λ s. last_after k None (to_come s)) c.into_iter-pair-iterator.ensures.into_iter_gives
