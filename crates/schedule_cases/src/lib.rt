@@ -1,5 +1,6 @@
 // Both policies through the same calls, as tables with the answers worked out by hand.
 #![tactic(auto)]
+
 #[cfg(test)]
 mod refusals;
 #[cfg(test)]

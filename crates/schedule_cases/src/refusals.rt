@@ -4,6 +4,7 @@ use rotation::{Ordered, Turns};
 use schedule::Policy;
 use std::alloc::Global;
 use std::process::Abort;
+use std::test::Fail;
 use wire::Priority;
 
 // A call, whether it is accepted, and what then stands of one id and of all.
@@ -36,24 +37,33 @@ fn refused(call: Call, id: u32, priority: Option<Priority>, entered: u32) -> Cas
     }
 }
 
-fn check_case<P: Policy>(rt: &impl Abort, policy: &mut P, case: Case) {
-    assert_eq!(rt; answer(policy, case.call), case.accepted, "{:?}", case.call);
-    assert_eq!(rt; policy.priority(case.id), case.priority, "{:?}", case.call);
-    assert_eq!(rt; policy.entered(), case.entered, "{:?}", case.call);
-    assert_eq!(rt; policy.limit(), 64);
+fn check_case<P: Policy>(rt: &impl Abort, kind: &str, policy: &mut P, case: Case) {
+    let call = case.call;
+    assert_eq!(rt;
+        answer(policy, call),
+        case.accepted,
+        "{call:?} under {kind}"
+    );
+    assert_eq!(rt;
+        policy.priority(case.id),
+        case.priority,
+        "{call:?} under {kind}"
+    );
+    assert_eq!(rt; policy.entered(), case.entered, "{call:?} under {kind}");
+    assert_eq!(rt; policy.limit(), 64, "under {kind}");
 }
 
-fn check_cases<P: Policy>(rt: &impl Abort, policy: &mut P, cases: &[Case]) -> Result<(), Fail> {
+fn check_cases<P: Policy>(rt: &impl Abort, kind: &str, policy: &mut P, cases: &[Case]) {
     for case in cases {
-        check_case(rt, policy, *case);
+        check_case(rt, kind, policy, *case);
     }
-    Ok(())
 }
 
 // Checks the cases in order on a fresh policy of each kind.
 fn check_on_both(rt: &impl Abort, heap: Global, cases: &[Case]) -> Result<(), Fail> {
-    check_cases(rt, &mut Turns::new(heap)?, cases).note("under turns")?;
-    check_cases(rt, &mut Ordered::new(heap)?, cases).note("under ordered")
+    check_cases(rt, "turns", &mut Turns::new(heap)?, cases);
+    check_cases(rt, "ordered", &mut Ordered::new(heap)?, cases);
+    Ok(())
 }
 
 #[test]
@@ -107,10 +117,11 @@ fn enter_63<P: Policy>(rt: &impl Abort, policy: &mut P) {
     assert_eq!(rt; policy.entered(), 63);
 }
 
-fn check_limit<P: Policy>(rt: &impl Abort, policy: &mut P) -> Result<(), Fail> {
+fn check_limit<P: Policy>(rt: &impl Abort, kind: &str, policy: &mut P) {
     enter_63(rt, policy);
     check_cases(
         rt,
+        kind,
         policy,
         &[
             refused(Call::Enter(63, U0), 63, Some(U3), 63),
@@ -125,19 +136,20 @@ fn check_limit<P: Policy>(rt: &impl Abort, policy: &mut P) -> Result<(), Fail> {
             accepted(Call::Enter(65, U0), 65, Some(U0), 64),
             refused(Call::Enter(10, U0), 10, None, 64),
         ],
-    )?;
+    );
     assert_eq!(rt; policy.choose(&[64, 65, 10, 63]), Some(65));
     assert_eq!(rt; policy.choose(&[63, 10, 1, 64]), Some(64));
     assert_eq!(rt; policy.choose(&[63, 10, 62]), Some(62));
-    Ok(())
 }
 
 #[test]
 fn limit_of_turns(rt: HostRuntime) -> Result<(), Fail> {
-    check_limit(&rt, &mut Turns::new(rt.alloc())?)
+    check_limit(&rt, "turns", &mut Turns::new(rt.alloc())?);
+    Ok(())
 }
 
 #[test]
 fn limit_of_ordered(rt: HostRuntime) -> Result<(), Fail> {
-    check_limit(&rt, &mut Ordered::new(rt.alloc())?)
+    check_limit(&rt, "ordered", &mut Ordered::new(rt.alloc())?);
+    Ok(())
 }

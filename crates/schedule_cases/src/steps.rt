@@ -36,25 +36,29 @@ pub type Step = (Call, &'static [u32], Option<u32>, Option<u32>);
 // Makes a call on a policy that is then to choose an id among some.
 fn run_step<P: Policy>(
     rt: &impl Abort,
+    kind: &str,
     policy: &mut P,
     call: Call,
     ids: &[u32],
     chosen: Option<u32>,
-) -> Result<(), Fail> {
-    assert!(rt; answer(policy, call), "{call:?}");
-    assert_eq!(rt; policy.choose(ids), chosen, "{call:?}, {ids:?}");
-    Ok(())
+) {
+    assert!(rt; answer(policy, call), "{call:?} under {kind}");
+    assert_eq!(rt;
+        policy.choose(ids),
+        chosen,
+        "{call:?}, {ids:?} under {kind}"
+    );
 }
 
 // Runs the steps in order on a fresh policy of each kind.
 pub(crate) fn run(rt: &impl Abort, heap: Global, steps: &[Step]) -> Result<(), Fail> {
     let mut turns = Turns::new(heap)?;
     for (call, ids, chosen, _) in steps {
-        run_step(rt, &mut turns, *call, ids, *chosen).note("under turns")?;
+        run_step(rt, "turns", &mut turns, *call, ids, *chosen);
     }
     let mut ordered = Ordered::new(heap)?;
     for (call, ids, _, chosen) in steps {
-        run_step(rt, &mut ordered, *call, ids, *chosen).note("under ordered")?;
+        run_step(rt, "ordered", &mut ordered, *call, ids, *chosen);
     }
     Ok(())
 }

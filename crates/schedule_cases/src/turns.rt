@@ -1,5 +1,6 @@
 // Whose turn it is after each call: the call, the listed ids, and the answers of turns and of ordered.
 use crate::steps::*;
+use std::test::Fail;
 
 #[test]
 fn one_id_in(rt: HostRuntime) -> Result<(), Fail> {
