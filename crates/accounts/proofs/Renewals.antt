@@ -2,7 +2,7 @@
 use Rattle.std.proofs.Common.{◌≡◌, ℕ, ◌+◌, ◌≤◌, false, List, [], ◌∷◌, ◌++◌, map, length, take, drop, pos, ◌+ℤ◌, ◌-ℤ◌, ◌≤ℤ◌, is_some, IfSome, Some, None, Option, sym, refl, ap, ◌∙◌, subst, ⊎_elim, map-id, arith, eq-eqb, ne_eqb}
 use mathlib.Core.Path.{fun_ext}
 use Rattle.std.specs.Option.{option_map}
-use Rattle.std.specs.List.{AllByRecursion as All}
+use Rattle.std.specs.List.{AllByRecursion}
 use Rattle.std.proofs.lemmas.Bool.{cases_eq}
 use Rattle.std.proofs.lemmas.Int.{ints}
 use Rattle.std.proofs.lemmas.List.{length-map, take_at}
@@ -26,7 +26,7 @@ module _ (b e i v p : ℕ) (f : Account → Account) (above : p + b ≡ i) (same
       (cases_eq a.id q)
 
   -- no balance passes MAX exactly where no stream's window does
-  pub fits-streams : (rows : List Account) → All (Fits p v) rows → (q : ℕ) → IfSome (stream_in b rows q) (λ c. (shifted i v c).window ≤ℤ pos MAX)
+  pub fits-streams : (rows : List Account) → AllByRecursion (Fits p v) rows → (q : ℕ) → IfSome (stream_in b rows q) (λ c. (shifted i v c).window ≤ℤ pos MAX)
   fits-streams [] all q = tt
   fits-streams (a ∷ rows) all q =
       ⊎_elim
@@ -34,7 +34,7 @@ module _ (b e i v p : ℕ) (f : Account → Account) (above : p + b ≡ i) (same
       (λ n. rw (ne_eqb a.id q n) (fits-streams rows all.1 q))
       (cases_eq a.id q)
 
-  pub streams-fit : (rows : List Account) → Fairs b i rows → ((q : ℕ) → IfSome (stream_in b rows q) (λ c. (shifted i v c).window ≤ℤ pos MAX)) → All (Fits p v) rows
+  pub streams-fit : (rows : List Account) → Fairs b i rows → ((q : ℕ) → IfSome (stream_in b rows q) (λ c. (shifted i v c).window ≤ℤ pos MAX)) → AllByRecursion (Fits p v) rows
   streams-fit [] fair h = tt
   streams-fit (a ∷ rows) fair h =
       let here : ((a.balance +ℤ pos b) +ℤ (pos v -ℤ pos i)) ≤ℤ pos MAX = rw (eq-eqb a.id a.id refl) at (h a.id) in (
@@ -58,7 +58,7 @@ module _ (b e i v p : ℕ) (f : Account → Account) (above : p + b ≡ i) (same
       let both = subst P (sym (moves a)) (omega (arith, ints), omega (arith, ints)) in
       (omega (arith, fair.0, same_id a), both.0, both.1)
 
-  pub fairs-moved : (rows : List Account) → v ≤ MAX → Fairs b i rows → All (Fits p v) rows → Fairs e v (map f rows)
+  pub fairs-moved : (rows : List Account) → v ≤ MAX → Fairs b i rows → AllByRecursion (Fits p v) rows → Fairs e v (map f rows)
   fairs-moved [] m fair all = tt
   fairs-moved (a ∷ rows) m fair all = (
     fair-moved a m fair.0 all.0,
@@ -74,7 +74,7 @@ module _ (b e i v p : ℕ) (f : Account → Account) (above : p + b ≡ i) (same
   renew-leaves c t rows = λ j. record { initial = v; connection = c; stream = fun_ext (streams-moved rows) j; begun = length-map rows f j; held = t; limit = 64 }
 
 -- a balance that is the window itself stays from -MAX to MAX
-pub in-range : (i v p : ℕ) → p + 0 ≡ i → (rows : List Account) → Fairs 0 i rows → All (Fits p v) rows → All (InRange p v) rows
+pub in-range : (i v p : ℕ) → p + 0 ≡ i → (rows : List Account) → Fairs 0 i rows → AllByRecursion (Fits p v) rows → AllByRecursion (InRange p v) rows
 in-range i v p above [] fair all = tt
 in-range i v p above (a ∷ rows) fair all =
     let high : (a.balance +ℤ (pos v -ℤ pos p)) ≤ℤ pos MAX = all.0 in
@@ -101,7 +101,7 @@ pub record Renewed (st : Storage) (i v c t : ℕ) (rows after-rows : List Accoun
   pub accepts : (q : ℕ) → IfSome (stream_in (base_of st i) rows q) (λ k. (shifted i v k).window ≤ℤ pos MAX)
   pub leaves : meant (base_of st v) v c t after-rows ≡ after (meant (base_of st i) i c t rows) (initial v)
 
-pub renewed : (st : Storage) (i v c t p : ℕ) (rows after-rows : List Account) → p + base_of st i ≡ i → v ≤ MAX → Fairs (base_of st i) i rows → All (Fits p v) rows → after-rows ≡ renewed_by st p v rows
+pub renewed : (st : Storage) (i v c t p : ℕ) (rows after-rows : List Account) → p + base_of st i ≡ i → v ≤ MAX → Fairs (base_of st i) i rows → AllByRecursion (Fits p v) rows → after-rows ≡ renewed_by st p v rows
     → Renewed st i v c t rows after-rows
 renewed Direct i v c t p rows after-rows above m fair all e =
     record {
@@ -123,11 +123,11 @@ renewed Offset i v c t p rows after-rows above m fair all e =
 
 -- where some window would pass MAX, some balance does not fit
 pub all-fit-from : (st : Storage) (i v p : ℕ) (rows : List Account) → p + base_of st i ≡ i → Fairs (base_of st i) i rows
-    → ((q : ℕ) → IfSome (stream_in (base_of st i) rows q) (λ k. (shifted i v k).window ≤ℤ pos MAX)) → All (Fits p v) rows
+    → ((q : ℕ) → IfSome (stream_in (base_of st i) rows q) (λ k. (shifted i v k).window ≤ℤ pos MAX)) → AllByRecursion (Fits p v) rows
 all-fit-from Direct i v p rows above fair h = streams-fit 0 0 i v p (shifted_by p v) above (λ a. refl) (direct-moves i v p above) rows fair h
 all-fit-from Offset i v p rows above fair h = streams-fit i v i v p (λ a. a) above (λ a. refl) (offset-moves i v) rows fair h
 
-pub renewable : (st : Storage) (i v p : ℕ) (rows : List Account) → p + base_of st i ≡ i → Fairs (base_of st i) i rows → All (Fits p v) rows → Renewable st p v rows
+pub renewable : (st : Storage) (i v p : ℕ) (rows : List Account) → p + base_of st i ≡ i → Fairs (base_of st i) i rows → AllByRecursion (Fits p v) rows → Renewable st p v rows
 renewable Direct i v p rows above fair all = in-range i v p above rows fair all
 renewable Offset i v p rows above fair all = tt
 

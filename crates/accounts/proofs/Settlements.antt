@@ -1,6 +1,6 @@
 -- What a call on one stream makes of whole books: that their invariant is kept, what it answers, and what it leaves.
 use Rattle.std.proofs.Common.{◌≡◌, ℕ, ◌+◌, ◌-◌, ◌<◌, ◌≤◌, min, Bool, true, false, cond, ltb, List, [], ◌∷◌, ◌++◌, length, take, drop, set, pos, ◌+ℤ◌, ◌≤ℤ◌, is_some, None, vec_items, vec_capacity, Decides, sym, refl, ap, ◌∙◌, subst, arith, w32, to_z, MatchOption}
-use Rattle.std.specs.List.{AllByRecursion as All}
+use Rattle.std.specs.List.{AllByRecursion}
 use Rattle.std.proofs.lemmas.Int.{ints, to_z_pos}
 use Rattle.std.proofs.lemmas.Bool.{false≢true}
 use Rattle.records.specs.Records.{Absent, seek}
@@ -152,18 +152,18 @@ above-base : (s : Books) (k : ℕ) → k ≡ base s → (s.initial - k) + base s
 above-base s k at = let within = base-within s.storage s.initial in omega (arith, at)
 
 -- a new initial window that every balance can take up
-pub renews : (s : Books) (v k : ℕ) (ws : List Account) → k ≡ base s → v ≤ MAX → All (Fits (s.initial - k) v) (rows_of s) → ws ≡ renewed_by s.storage (s.initial - k) v (rows_of s)
+pub renews : (s : Books) (v k : ℕ) (ws : List Account) → k ≡ base s → v ≤ MAX → AllByRecursion (Fits (s.initial - k) v) (rows_of s) → ws ≡ renewed_by s.storage (s.initial - k) v (rows_of s)
     → Renewed s.storage s.initial v s.connection s.held (rows_of s) (take s.table.rows.len (ws ++ drop (length ws) (rows_of s)))
 renews s v k ws at m all e =
     let r = renewed s.storage s.initial v s.connection s.held (s.initial - k) (rows_of s) ws (above-base s k at) m (fair_of s) all e in
     let same : take s.table.rows.len (ws ++ drop (length ws) (rows_of s)) ≡ ws = in_place s.table.rows.len ws (rows_of s) (r.as_many ∙ sym s.table.rows.ok.0) in
     subst (Renewed s.storage s.initial v s.connection s.held (rows_of s)) (sym same) r
 
-pub may-renew : (s : Books) (v k : ℕ) → k ≡ base s → All (Fits (s.initial - k) v) (rows_of s) → Renewable s.storage (s.initial - k) v (rows_of s)
+pub may-renew : (s : Books) (v k : ℕ) → k ≡ base s → AllByRecursion (Fits (s.initial - k) v) (rows_of s) → Renewable s.storage (s.initial - k) v (rows_of s)
 may-renew s v k at all = renewable s.storage s.initial v (s.initial - k) (rows_of s) (above-base s k at) (fair_of s) all
 
 -- one that some balance cannot take up is refused
-pub cannot-renew : (s : Books) (v k : ℕ) (r : Bool) → k ≡ base s → r ≡ false → Decides r (All (Fits (s.initial - k) v) (rows_of s)) → Decides false (Accepts (meaning_of s) (most_room (meaning_of s)) (initial v))
+pub cannot-renew : (s : Books) (v k : ℕ) (r : Bool) → k ≡ base s → r ≡ false → Decides r (AllByRecursion (Fits (s.initial - k) v) (rows_of s)) → Decides false (Accepts (meaning_of s) (most_room (meaning_of s)) (initial v))
 cannot-renew s v k r at left_out d = (
   λ e. absurd (false≢true e),
   λ h. sym left_out ∙ d.1 (all-fit-from s.storage s.initial v (s.initial - k) (rows_of s) (above-base s k at) (fair_of s) h.1),

@@ -1,6 +1,6 @@
 -- Where an account's window begins: at 0, or at the initial window.
 use Rattle.std.specs.Prelude.{ℕ, List, map}
-use Rattle.std.specs.List.{AllByRecursion as All}
+use Rattle.std.specs.List.{AllByRecursion}
 use Rattle.accounts.specs.declared.accounts_of_streams.Account.{Account}
 use Rattle.accounts.specs.Accounts.{shifted_by, InRange}
 use Rattle.accounts.specs.declared.storages.Storage.{Storage}
@@ -17,5 +17,5 @@ renewed_by Offset before v rows = rows
 
 -- no balance that has to take the difference up leaves -MAX to MAX
 abbrev pub Renewable : Storage → ℕ → ℕ → List Account → Type 0
-Renewable Direct before v rows = All (InRange before v) rows
+Renewable Direct before v rows = AllByRecursion (InRange before v) rows
 Renewable Offset before v rows = Unit {0}

@@ -1,6 +1,6 @@
 // What concerns every account.
 ghost use Rattle.std.specs.Prelude.{◌≡◌, ℕ, map, Decides};
-ghost use Rattle.std.specs.List.{AllByRecursion as All};
+ghost use Rattle.std.specs.List.{AllByRecursion};
 ghost use Rattle.accounts.specs.Accounts.{Fits, InRange, shifted_by};
 ghost use Rattle.accounts.specs.Storages.{Renewable, renewed_by};
 
@@ -9,7 +9,7 @@ use crate::storages::Storage;
 
 // Whether no balance passes MAX when it takes up a new initial window.
 pub(crate) fn all_fit(accounts: &[Account], before: u32, v: u32) -> bool
-    ensures { Decides result (All (Fits before v) accounts.now) }
+    ensures { Decides result (AllByRecursion (Fits before v) accounts.now) }
 {
     for account in accounts {
         if !account.fits(before, v) {
@@ -21,7 +21,7 @@ pub(crate) fn all_fit(accounts: &[Account], before: u32, v: u32) -> bool
 
 // Moves every balance by what a new initial window differs from the one before.
 fn shift_all(accounts: &mut [Account], before: u32, v: u32)
-    requires { All (InRange before v) accounts.old }
+    requires { AllByRecursion (InRange before v) accounts.old }
     ensures { accounts.new ≡ map (shifted_by before v) accounts.old }
 {
     for account in accounts.iter_mut() {

@@ -1,12 +1,9 @@
--- The first calls on a fresh gate are accepted.
-use Rattle.std.proofs.Common.{◌≡◌, ℕ, min, Bool, true, cond, sym, refl, ap, ◌∙◌, subst, arith}
+-- The first hold on a fresh gate is accepted.
+use Rattle.std.proofs.Common.{◌≡◌, ℕ, min, Bool, true, sym, refl, ap, ◌∙◌, subst, arith}
 use Rattle.std.proofs.lemmas.Bool.{cond-true}
 use Rattle.credit.specs.Calls.{Call, Accepts, after, begin, hold}
 use Rattle.credit.specs.Credit.{Meaning, fresh, most_room}
 use Rattle.credit.specs.Gates.{Did}
-
-pub begins-first : (m : Meaning) → m ≡ fresh 64 → Accepts m (most_room m) (begin 1)
-begins-first m e = subst (λ k. Accepts k (most_room k) (begin 1)) (sym e) ((λ z. omega arith), refl, omega arith)
 
 pub holds-first : (m : Meaning) (most : ℕ) → m ≡ after (fresh 64) (begin 1) → most ≡ 1000 → Accepts m (λ id. min (most_room m id) most) (hold 1 1000)
 holds-first m most e k = subst (λ n. Accepts n (λ id. min (most_room n id) most) (hold 1 1000)) (sym e) (refl, omega (arith, k))

@@ -1,4 +1,6 @@
 // Our stacks of gates from their first call on: what they promise, with no premise left.
+#![tactic(auto)]
+
 ghost use Rattle.std.specs.Prelude.{◌≡◌, true, IfOk};
 
 use credit::{Cap, Gate};

@@ -1,19 +1,12 @@
-use Rattle.std.proofs.Common.{◌≡◌, sym, ap, ◌∙◌}
+use Rattle.std.proofs.Common.{◌≡◌, ap, ◌∙◌}
 use Rattle.accounts.specs.Books.{meaning_of}
 use Rattle.credit.specs.Credit.{fresh}
-use Rattle.gate_stacks.proofs.FirstCalls.{begins-first, holds-first, left_by}
+use Rattle.gate_stacks.proofs.FirstCalls.{holds-first, left_by}
 use Rattle.gate_stacks.proofs.first_hold.Goals as goal
-
-pub returns-then-not-begin : goal.returns-then-not-begin
-returns-then-not-begin g c =
-    let p = c.in-ok-new.ensures in
-    let valid : c.over-gate.result.below.books.storage ≡ g.L.Layout.stored = ap (λ s. s.below.books.storage) c.over-gate.ensures ∙ p.1 in
-    let first : meaning_of c.over-gate.result.below.books ≡ fresh 64 = ap (λ s. meaning_of s.below.books) c.over-gate.ensures ∙ p.0 in
-    sym c.if-not-begin.true ∙ (c.begin.ensures.does valid).answers.1 (begins-first (meaning_of c.over-gate.result.below.books) first)
 
 pub returns : goal.returns
 returns g c =
-    let p = c.in-ok-new.ensures in
+    let p = c.in_ok-new.ensures in
     let valid : c.over-gate.result.below.books.storage ≡ g.L.Layout.stored = ap (λ s. s.below.books.storage) c.over-gate.ensures ∙ p.1 in
     let first : meaning_of c.over-gate.result.below.books ≡ fresh 64 = ap (λ s. meaning_of s.below.books) c.over-gate.ensures ∙ p.0 in
     let did = c.begin.ensures.does valid in
