@@ -1,5 +1,6 @@
 // Fresh connections over our gates and policies: the empty history leads to them, with no premise left.
 #![tactic(auto)]
+
 ghost use Rattle.std.specs.Prelude.{◌≡◌, ℕ, min, IfOk, None};
 ghost use Rattle.accounts.specs.Books.{meaning_of};
 ghost use Rattle.credit.specs.Credit.{most_room};
