@@ -1,5 +1,7 @@
 // Caps that bind, over both gates and over a cap.
 use crate::steps::*;
+use std::alloc::Global;
+use std::process::Abort;
 use std::test::*;
 
 #[test]
@@ -26,6 +28,7 @@ fn cap_of_0(rt: HostRuntime) -> Result<(), Fail> {
         ..both_raised
     };
     run_capped(
+        &rt,
         rt.alloc(),
         0,
         &[
@@ -79,6 +82,7 @@ fn cap_of_1000(rt: HostRuntime) -> Result<(), Fail> {
         ..spent
     };
     run_capped(
+        &rt,
         rt.alloc(),
         1_000,
         &[
@@ -142,6 +146,7 @@ fn cap_of_1000_at_the_edges(rt: HostRuntime) -> Result<(), Fail> {
         ..below
     };
     run_capped(
+        &rt,
         rt.alloc(),
         1_000,
         &[
@@ -194,6 +199,7 @@ fn cap_beside_a_short_connection(rt: HostRuntime) -> Result<(), Fail> {
         ..second_holds
     };
     run_capped(
+        &rt,
         rt.alloc(),
         40_000,
         &[
@@ -221,7 +227,7 @@ const UNDER_300: Step = Step {
     connection_held: 0,
 };
 
-fn check_300(rt: HostRuntime, inner: u32, outer: u32) -> Result<(), Fail> {
+fn check_300(rt: &impl Abort, heap: Global, inner: u32, outer: u32) -> Result<(), Fail> {
     let held = Step {
         call: Call::Hold(1, 300),
         held: Some(300),
@@ -241,7 +247,8 @@ fn check_300(rt: HostRuntime, inner: u32, outer: u32) -> Result<(), Fail> {
         ..spent
     };
     run_capped_twice(
-        rt.alloc(),
+        rt,
+        heap,
         inner,
         outer,
         &[
@@ -261,15 +268,15 @@ fn check_300(rt: HostRuntime, inner: u32, outer: u32) -> Result<(), Fail> {
 
 #[test]
 fn cap_over_a_wider_cap(rt: HostRuntime) -> Result<(), Fail> {
-    check_300(rt, 1_000, 300)
+    check_300(&rt, rt.alloc(), 1_000, 300)
 }
 
 #[test]
 fn cap_over_a_narrower_cap(rt: HostRuntime) -> Result<(), Fail> {
-    check_300(rt, 300, 1_000)
+    check_300(&rt, rt.alloc(), 300, 1_000)
 }
 
 #[test]
 fn cap_over_an_equal_cap(rt: HostRuntime) -> Result<(), Fail> {
-    check_300(rt, 300, 300)
+    check_300(&rt, rt.alloc(), 300, 300)
 }

@@ -34,6 +34,7 @@ fn stream_at_its_most(rt: HostRuntime) -> Result<(), Fail> {
         ..spent
     };
     run_on_all(
+        &rt,
         rt.alloc(),
         &[
             BEGUN,
@@ -86,6 +87,7 @@ fn connection_at_its_most(rt: HostRuntime) -> Result<(), Fail> {
         ..BEGUN
     };
     run_on_all(
+        &rt,
         rt.alloc(),
         &[
             FRESH,
@@ -128,6 +130,7 @@ fn initial_window_at_its_edges(rt: HostRuntime) -> Result<(), Fail> {
         ..BEGUN
     };
     run_on_all(
+        &rt,
         rt.alloc(),
         &[
             most,
@@ -169,6 +172,7 @@ fn begun_at_an_initial_window_of_0(rt: HostRuntime) -> Result<(), Fail> {
         ..nothing_held
     };
     run_on_all(
+        &rt,
         rt.alloc(),
         &[
             none,
@@ -266,6 +270,7 @@ const LEAST_LEFT: Step = Step {
 #[test]
 fn all_of_the_most_spent(rt: HostRuntime) -> Result<(), Fail> {
     run_on_all(
+        &rt,
         rt.alloc(),
         &[
             RAISED,
@@ -291,6 +296,7 @@ fn stream_at_its_least(rt: HostRuntime) -> Result<(), Fail> {
         ..LEAST
     };
     run_on_all(
+        &rt,
         rt.alloc(),
         &[
             RAISED,
@@ -321,6 +327,7 @@ fn stream_from_its_least_to_its_most(rt: HostRuntime) -> Result<(), Fail> {
         ..LEAST
     };
     run_on_all(
+        &rt,
         rt.alloc(),
         &[
             RAISED,
@@ -353,6 +360,7 @@ fn stream_raised_from_its_least(rt: HostRuntime) -> Result<(), Fail> {
         ..connection_full
     };
     run_on_all(
+        &rt,
         rt.alloc(),
         &[
             RAISED,
@@ -388,6 +396,7 @@ fn left_at_its_least(rt: HostRuntime) -> Result<(), Fail> {
         ..full
     };
     run_on_all(
+        &rt,
         rt.alloc(),
         &[
             RAISED,
@@ -416,6 +425,7 @@ fn finished_at_its_least(rt: HostRuntime) -> Result<(), Fail> {
         ..finished
     };
     run_on_all(
+        &rt,
         rt.alloc(),
         &[
             RAISED,
@@ -467,6 +477,7 @@ fn finished_while_it_holds(rt: HostRuntime) -> Result<(), Fail> {
         ..second_holds
     };
     run_on_all(
+        &rt,
         rt.alloc(),
         &[
             BEGUN,
@@ -523,6 +534,7 @@ fn any_id_but_0(rt: HostRuntime) -> Result<(), Fail> {
         ..spent
     };
     run_on_all(
+        &rt,
         rt.alloc(),
         &[
             even,
@@ -602,6 +614,7 @@ fn streams_moved_apart(rt: HostRuntime) -> Result<(), Fail> {
         ..second
     };
     run_on_all(
+        &rt,
         rt.alloc(),
         &[
             BEGUN,

@@ -1,4 +1,6 @@
 // Gates at their edges, as tables of calls with the answers worked out by hand.
+#![tactic(auto)]
+
 #[cfg(test)]
 mod caps;
 #[cfg(test)]

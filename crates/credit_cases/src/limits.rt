@@ -76,7 +76,7 @@ fn at_the_limit(rt: HostRuntime) -> Result<(), Fail> {
         finished.refused(Call::Begin(32)),
         finished.refused(Call::Begin(66)),
     ])?;
-    run_on_all(rt.alloc(), steps.as_slice())
+    run_on_all(&rt, rt.alloc(), steps.as_slice())
 }
 
 #[test]
@@ -86,7 +86,7 @@ fn begun_and_finished_twice(rt: HostRuntime) -> Result<(), Fail> {
     steps.extend_from_slice(begun_64(rt.alloc())?.as_slice())?;
     finish_64(&mut steps)?;
     steps.extend_from_slice(&[FRESH.refused(Call::Finish(1)), BEGUN])?;
-    run_on_all(rt.alloc(), steps.as_slice())
+    run_on_all(&rt, rt.alloc(), steps.as_slice())
 }
 
 // One of 64 streams after a new initial window of 100, with nothing held or spent.
@@ -127,7 +127,7 @@ fn all_moved_alike(rt: HostRuntime) -> Result<(), Fail> {
         finished.refused(Call::Begin(32)),
         finished.refused(Call::Raise(32, 0)),
     ])?;
-    run_on_all(rt.alloc(), steps.as_slice())
+    run_on_all(&rt, rt.alloc(), steps.as_slice())
 }
 
 // Of 64 streams the first spent 1,000 octets, the 33rd holds 10 and the last was raised by 500.
@@ -227,7 +227,7 @@ fn all_moved_down(rt: HostRuntime) -> Result<(), Fail> {
         holds.refused(Call::Spend(33, 11)),
         first.refused(Call::Hold(1, 1)),
     ])?;
-    run_on_all(rt.alloc(), steps.as_slice())
+    run_on_all(&rt, rt.alloc(), steps.as_slice())
 }
 
 #[test]
@@ -269,7 +269,7 @@ fn all_moved_up(rt: HostRuntime) -> Result<(), Fail> {
             ..holds
         },
     ])?;
-    run_on_all(rt.alloc(), steps.as_slice())
+    run_on_all(&rt, rt.alloc(), steps.as_slice())
 }
 
 #[test]
@@ -330,5 +330,5 @@ fn all_holding(rt: HostRuntime) -> Result<(), Fail> {
             ..another
         },
     ])?;
-    run_on_all(rt.alloc(), steps.as_slice())
+    run_on_all(&rt, rt.alloc(), steps.as_slice())
 }

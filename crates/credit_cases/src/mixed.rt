@@ -1,13 +1,19 @@
 // Both gates side by side: equal answers to every call and to every question.
 use crate::steps::*;
 use credit::{Cap, Gate};
+use std::fmt::Display;
 use std::process::Abort;
 use std::test::*;
 use windows::{DirectWindows, OffsetWindows};
 
-fn check_alike<A: Gate, B: Gate>(rt: &impl Abort, one: &A, other: &B) -> Result<(), Fail> {
+fn check_alike<A: Gate, B: Gate>(
+    rt: &impl Abort,
+    one: &A,
+    other: &B,
+    after: &impl Display,
+) -> Result<(), Fail> {
     for id in [0u32, 1, 2, 3, 4, 5, 9, 2_147_483_648, 4_294_967_295] {
-        assert_eq!(rt; told(one, id), told(other, id), "stream {id}");
+        assert_eq!(rt; told(one, id), told(other, id), "{after}: stream {id}");
     }
     Ok(())
 }
@@ -96,7 +102,7 @@ fn check_answered<A: Gate, B: Gate>(
     for (call, accepted) in ANSWERED {
         assert_eq!(rt; answer(one, call), accepted, "{call:?}");
         assert_eq!(rt; answer(other, call), accepted, "{call:?}");
-        check_alike(rt, one, other).note(format_args!("{call:?}"))?;
+        check_alike(rt, one, other, &format_args!("{call:?}"))?;
     }
     assert_eq!(rt; told(one, 2), AT_THE_END);
     Ok(())
@@ -132,8 +138,12 @@ fn check_calls<A: Gate, B: Gate>(
         Call::Spend(id, amount),
         Call::Finish(id.wrapping_add(2)),
     ] {
-        assert_eq!(rt; answer(one, call), answer(other, call), "{call:?}");
-        check_alike(rt, one, other).note(format_args!("{call:?}"))?;
+        assert_eq!(rt;
+            answer(one, call),
+            answer(other, call),
+            "amount {amount}: {call:?}"
+        );
+        check_alike(rt, one, other, &format_args!("amount {amount}: {call:?}"))?;
     }
     Ok(())
 }
@@ -175,7 +185,7 @@ fn check_amounts<A: Gate, B: Gate>(
         30,
         7,
     ] {
-        check_streams(rt, one, other, amount).note(format_args!("amount {amount}"))?;
+        check_streams(rt, one, other, amount)?;
     }
     Ok(())
 }

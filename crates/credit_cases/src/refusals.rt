@@ -5,6 +5,7 @@ use std::test::*;
 #[test]
 fn with_no_stream(rt: HostRuntime) -> Result<(), Fail> {
     run_on_all(
+        &rt,
         rt.alloc(),
         &[
             FRESH,
@@ -34,6 +35,7 @@ fn with_no_stream(rt: HostRuntime) -> Result<(), Fail> {
 #[test]
 fn with_one_stream(rt: HostRuntime) -> Result<(), Fail> {
     run_on_all(
+        &rt,
         rt.alloc(),
         &[
             BEGUN,
@@ -64,6 +66,7 @@ fn with_one_stream(rt: HostRuntime) -> Result<(), Fail> {
 fn once_finished(rt: HostRuntime) -> Result<(), Fail> {
     let finished = FRESH.accepted(Call::Finish(1));
     run_on_all(
+        &rt,
         rt.alloc(),
         &[
             BEGUN,
@@ -95,6 +98,7 @@ fn with_octets_held(rt: HostRuntime) -> Result<(), Fail> {
         ..BEGUN
     };
     run_on_all(
+        &rt,
         rt.alloc(),
         &[
             BEGUN,
@@ -126,6 +130,7 @@ fn with_nothing_held_as_an_amount(rt: HostRuntime) -> Result<(), Fail> {
         ..BEGUN
     };
     run_on_all(
+        &rt,
         rt.alloc(),
         &[
             BEGUN,
@@ -189,6 +194,7 @@ fn with_a_short_connection(rt: HostRuntime) -> Result<(), Fail> {
         ..one_more
     };
     run_on_all(
+        &rt,
         rt.alloc(),
         &[
             BEGUN,
@@ -231,6 +237,7 @@ fn with_a_short_window(rt: HostRuntime) -> Result<(), Fail> {
         ..emptied
     };
     run_on_all(
+        &rt,
         rt.alloc(),
         &[
             BEGUN,
@@ -271,6 +278,7 @@ fn with_a_full_window(rt: HostRuntime) -> Result<(), Fail> {
         ..second
     };
     run_on_all(
+        &rt,
         rt.alloc(),
         &[
             BEGUN,

@@ -1,6 +1,7 @@
 // One call on a gate, what the gate then tells, and how a table of them is run.
 use credit::{Cap, Gate};
 use std::alloc::Global;
+use std::process::Abort;
 use std::test::*;
 use windows::{DirectWindows, OffsetWindows};
 
@@ -139,50 +140,67 @@ fn expected(before: State, step: Step) -> State {
     }
 }
 
-pub(crate) fn run_step<G: Gate>(gate: &mut G, step: Step) -> Result<(), Fail> {
+pub(crate) fn run_step<G: Gate>(
+    rt: &impl Abort,
+    gate: &mut G,
+    step: Step,
+    on: &str,
+) -> Result<(), Fail> {
     let before = told(gate, step.stream);
-    assert_eq!(answer(gate, step.call), step.accepted, "{step:?}");
+    let wanted = step.accepted;
+    assert_eq!(rt; answer(gate, step.call), wanted, "{on}: {step:?}");
     let after = told(gate, step.stream);
-    assert_eq!(after, expected(before, step), "{step:?}");
-    assert!(step.accepted || after == before, "{step:?}");
+    assert_eq!(rt; after, expected(before, step), "{on}: {step:?}");
+    assert!(rt; step.accepted || after == before, "{on}: {step:?}");
     Ok(())
 }
 
 // Runs the steps in order.
-pub(crate) fn run<G: Gate>(gate: &mut G, steps: &[Step]) -> Result<(), Fail> {
+pub(crate) fn run<G: Gate>(
+    rt: &impl Abort,
+    gate: &mut G,
+    steps: &[Step],
+    on: &str,
+) -> Result<(), Fail> {
     for step in steps {
-        run_step(gate, *step)?;
+        run_step(rt, gate, *step, on)?;
     }
     Ok(())
 }
 
 // Runs the steps on a fresh gate of each kind under a cap.
-pub(crate) fn run_capped(heap: Global, most: u32, steps: &[Step]) -> Result<(), Fail> {
+pub(crate) fn run_capped(
+    rt: &impl Abort,
+    heap: Global,
+    most: u32,
+    steps: &[Step],
+) -> Result<(), Fail> {
     let mut direct = Cap::over(DirectWindows::new(heap)?, most);
-    run(&mut direct, steps).note("on a cap over direct windows")?;
+    run(rt, &mut direct, steps, "on a cap over direct windows")?;
     let mut offset = Cap::over(OffsetWindows::new(heap)?, most);
-    run(&mut offset, steps).note("on a cap over offset windows")
+    run(rt, &mut offset, steps, "on a cap over offset windows")
 }
 
 // Runs the steps on a fresh gate of each kind under two caps.
 pub(crate) fn run_capped_twice(
+    rt: &impl Abort,
     heap: Global,
     inner: u32,
     outer: u32,
     steps: &[Step],
 ) -> Result<(), Fail> {
     let mut direct = Cap::over(Cap::over(DirectWindows::new(heap)?, inner), outer);
-    run(&mut direct, steps).note("on two caps over direct windows")?;
+    run(rt, &mut direct, steps, "on two caps over direct windows")?;
     let mut offset = Cap::over(Cap::over(OffsetWindows::new(heap)?, inner), outer);
-    run(&mut offset, steps).note("on two caps over offset windows")
+    run(rt, &mut offset, steps, "on two caps over offset windows")
 }
 
 // Runs the steps on a fresh gate of each kind, bare and under caps that no room reaches.
-pub(crate) fn run_on_all(heap: Global, steps: &[Step]) -> Result<(), Fail> {
+pub(crate) fn run_on_all(rt: &impl Abort, heap: Global, steps: &[Step]) -> Result<(), Fail> {
     let mut direct = DirectWindows::new(heap)?;
-    run(&mut direct, steps).note("on direct windows")?;
+    run(rt, &mut direct, steps, "on direct windows")?;
     let mut offset = OffsetWindows::new(heap)?;
-    run(&mut offset, steps).note("on offset windows")?;
-    run_capped(heap, 4_294_967_295, steps)?;
-    run_capped_twice(heap, 4_294_967_295, 2_147_483_647, steps)
+    run(rt, &mut offset, steps, "on offset windows")?;
+    run_capped(rt, heap, 4_294_967_295, steps)?;
+    run_capped_twice(rt, heap, 4_294_967_295, 2_147_483_647, steps)
 }

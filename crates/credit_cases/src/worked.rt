@@ -73,6 +73,7 @@ fn window_below_zero(rt: HostRuntime) -> Result<(), Fail> {
         ..BELOW
     };
     run_on_all(
+        &rt,
         rt.alloc(),
         &[
             BEGUN,
@@ -106,6 +107,7 @@ fn window_raised_from_below_zero(rt: HostRuntime) -> Result<(), Fail> {
         ..empty
     };
     run_on_all(
+        &rt,
         rt.alloc(),
         &[
             BEGUN,
@@ -138,6 +140,7 @@ fn window_below_what_is_held(rt: HostRuntime) -> Result<(), Fail> {
         ..spent
     };
     run_on_all(
+        &rt,
         rt.alloc(),
         &[
             BEGUN,
@@ -177,6 +180,7 @@ fn window_raised_past_what_is_held(rt: HostRuntime) -> Result<(), Fail> {
         ..above
     };
     run_on_all(
+        &rt,
         rt.alloc(),
         &[
             BEGUN,
@@ -219,6 +223,7 @@ fn increments_beside_a_hold(rt: HostRuntime) -> Result<(), Fail> {
         ..spent
     };
     run_on_all(
+        &rt,
         rt.alloc(),
         &[
             BEGUN,
