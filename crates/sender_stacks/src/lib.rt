@@ -37,9 +37,13 @@ pub fn fresh_capped<L: Layout, R: Rule>(
     heap: Global,
     most: u32,
 ) -> Result<Connection<Cap<Windows<L>>, Rotation<R>>, AllocError>
-    ensures { IfOk result (λ c. (k : Meaning) → k ≡ fresh k.space → Reached (moment_of (λ g. meaning_of g.below.books) (λ g id. min (most_room (meaning_of g.below.books) id) g.most) (λ p. ranked (order_in p)) (λ p ids. chosen (standing_of R.Rule.stands (order_in p)) None ids) c k) start (spot_of (λ g. meaning_of g.below.books) (λ g id. min (most_room (meaning_of g.below.books) id) g.most) (λ g. g.below.books.storage ≡ L.Layout.stored) (λ p. ranked (order_in p)) (λ p ids. chosen (standing_of R.Rule.stands (order_in p)) None ids) (λ p. Whole p) c k)) }
+    ensures capped { IfOk result (λ c. c.gate.most ≡ most) }
+    ensures reached { IfOk result (λ c. (k : Meaning) → k ≡ fresh k.space → Reached (moment_of (λ g. meaning_of g.below.books) (λ g id. min (most_room (meaning_of g.below.books) id) g.most) (λ p. ranked (order_in p)) (λ p ids. chosen (standing_of R.Rule.stands (order_in p)) None ids) c k) start (spot_of (λ g. meaning_of g.below.books) (λ g id. min (most_room (meaning_of g.below.books) id) g.most) (λ g. g.below.books.storage ≡ L.Layout.stored) (λ p. ranked (order_in p)) (λ p ids. chosen (standing_of R.Rule.stands (order_in p)) None ids) (λ p. Whole p) c k)) }
 {
     let gate = Cap::over(Windows::<L>::new(heap)?, most);
     let policy = Rotation::<R>::new(heap)?;
     Connection::new(heap, gate, policy)
 }
+
+#[cfg(test)]
+mod tests;

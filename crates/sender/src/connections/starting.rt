@@ -11,9 +11,10 @@ use schedule::Policy;
 use std::alloc::{AllocError, Global};
 
 impl<G: Gate + Drop, P: Policy + Drop> Connection<G, P> {
-    // A fresh connection over a gate and a policy.
+    // A fresh connection over a gate and a policy, which it keeps as they are.
     pub fn new(heap: Global, gate: G, policy: P) -> Result<Connection<G, P>, AllocError>
-        ensures { IfOk result (λ c. (k : Meaning) → Begins (G.Gate.meaning gate) (P.Policy.ranks policy) (G.Gate.valid gate × P.Policy.valid policy) k (spot_of G.Gate.meaning G.Gate.free G.Gate.valid P.Policy.ranks P.Policy.picks P.Policy.valid c k)) }
+        ensures begins { IfOk result (λ c. (k : Meaning) → Begins (G.Gate.meaning gate) (P.Policy.ranks policy) (G.Gate.valid gate × P.Policy.valid policy) k (spot_of G.Gate.meaning G.Gate.free G.Gate.valid P.Policy.ranks P.Policy.picks P.Policy.valid c k)) }
+        ensures keeps { IfOk result (λ c. (c.gate ≡ gate) × (c.policy ≡ policy)) }
     {
         let streams = Table::new(heap)?;
         Ok(Connection {
