@@ -21,13 +21,8 @@ const FRESH: ConnectionReading = ConnectionReading {
     given: 0,
 };
 
-// A connection from its making on: a stream is opened and given octets, and an increment and an end of the stream come.
-fn check_first_calls<G: Gate, P: Policy>(
-    rt: &impl Abort,
-    connection: &mut Connection<G, P>,
-    room: u32,
-) {
-    assert_eq!(rt; connection.reading(), FRESH);
+// Stream 1 is opened, and the whole of its response is offered.
+fn check_opened<G: Gate, P: Policy>(rt: &impl Abort, connection: &mut Connection<G, P>) {
     let opened = Done::Opened {
         id: 1,
         priority: Priority {
@@ -42,6 +37,10 @@ fn check_first_calls<G: Gate, P: Policy>(
         end: true,
     };
     assert_eq!(rt; connection.offer(1, 300, true), Ok(offered));
+}
+
+// An increment of 10 for stream 1 is accepted.
+fn check_raised<G: Gate, P: Policy>(rt: &impl Abort, connection: &mut Connection<G, P>, room: u32) {
     let raised = Done::Frame {
         kind: 8,
         stream: 1,
@@ -58,6 +57,10 @@ fn check_first_calls<G: Gate, P: Policy>(
         room,
     };
     assert_eq!(rt; connection.stream(1), stream);
+}
+
+// An increment for idle stream 3 ends the connection.
+fn check_ended<G: Gate, P: Policy>(rt: &impl Abort, connection: &mut Connection<G, P>) {
     let idle = Fault {
         number: 4,
         code: 1,
@@ -81,6 +84,18 @@ fn check_first_calls<G: Gate, P: Policy>(
         ..FRESH
     };
     assert_eq!(rt; connection.reading(), last);
+}
+
+// A connection from its making to its end, over a gate that has so much room for stream 1.
+fn check_first_calls<G: Gate, P: Policy>(
+    rt: &impl Abort,
+    connection: &mut Connection<G, P>,
+    room: u32,
+) {
+    assert_eq!(rt; connection.reading(), FRESH);
+    check_opened(rt, connection);
+    check_raised(rt, connection, room);
+    check_ended(rt, connection);
 }
 
 #[test]
