@@ -1,19 +1,74 @@
--- The faults, each by its number, its error code of RFC 9113, section 7, the stream and the place that it names.
+-- The faults, each by its cause, the stream and the place that it names; a cause has a number, and an error code of RFC 9113, section 7.
 use Rattle.std.specs.Prelude.{ℕ}
+use Rattle.wire.specs.declared.faults.Cause.{Cause}
+use Rattle.wire.specs.declared.faults.Cause.TheVariants.{Ended, NotWhole, FrameSize, Protocol, FlowControl, NoIncrement, WindowOverflow, UnreadablePriority, BadId, Full, NotOpen, EndOffered, QueueOverflow, NoneReady, NotGranted, TooLong, NoSpace, GrantsUsedUp}
+use Rattle.wire.specs.declared.faults.ErrorCode.{ErrorCode}
+use Rattle.wire.specs.declared.faults.ErrorCode.TheVariants.{NoError, ProtocolError, FlowControlError, FrameSizeError}
 use Rattle.wire.specs.declared.faults.Fault.{Fault}
+
+abbrev pub number_of : Cause → ℕ
+number_of Ended = 1
+number_of NotWhole = 2
+number_of FrameSize = 3
+number_of Protocol = 4
+number_of FlowControl = 5
+number_of NoIncrement = 6
+number_of WindowOverflow = 7
+number_of UnreadablePriority = 8
+number_of BadId = 9
+number_of Full = 10
+number_of NotOpen = 11
+number_of EndOffered = 12
+number_of QueueOverflow = 13
+number_of NoneReady = 14
+number_of NotGranted = 15
+number_of TooLong = 16
+number_of NoSpace = 17
+number_of GrantsUsedUp = 18
+
+-- the error code of what breaks the RFC's rules; any other refusal has none
+abbrev pub code_of : Cause → ErrorCode
+code_of Ended = NoError
+code_of NotWhole = NoError
+code_of FrameSize = FrameSizeError
+code_of Protocol = ProtocolError
+code_of FlowControl = FlowControlError
+code_of NoIncrement = ProtocolError
+code_of WindowOverflow = FlowControlError
+code_of UnreadablePriority = NoError
+code_of BadId = NoError
+code_of Full = NoError
+code_of NotOpen = NoError
+code_of EndOffered = NoError
+code_of QueueOverflow = NoError
+code_of NoneReady = NoError
+code_of NotGranted = NoError
+code_of TooLong = NoError
+code_of NoSpace = NoError
+code_of GrantsUsedUp = NoError
+
+abbrev pub error_number : ErrorCode → ℕ
+error_number NoError = 0
+error_number ProtocolError = 1
+error_number FlowControlError = 3
+error_number FrameSizeError = 6
+
+-- a fault by its cause, the stream and the place
+abbrev pub fault : Cause → ℕ → ℕ → Fault
+fault cause stream place = record { cause = cause; stream = stream; place = place }
 
 -- the octets are not one whole frame
 abbrev pub not_whole : Fault
-not_whole = record { number = 2; code = 0; stream = 0; place = 0 }
+not_whole = fault NotWhole 0 0
 
 -- a length that the frame's type does not allow: FRAME_SIZE_ERROR, and the connection ends
 abbrev pub frame_size : Fault
-frame_size = record { number = 3; code = 6; stream = 0; place = 0 }
+frame_size = fault FrameSize 0 0
 
 -- what the protocol forbids, at a place of the frame: PROTOCOL_ERROR, and the connection ends
 abbrev pub protocol : ℕ → Fault
-protocol at = record { number = 4; code = 1; stream = 0; place = at }
+protocol at = fault Protocol 0 at
 
 -- an unreadable priority value, which begins at octet 13 of its frame
 abbrev pub unreadable_priority : ℕ → Fault
-unreadable_priority target = record { number = 8; code = 0; stream = target; place = 13 }
+unreadable_priority target = fault UnreadablePriority target 13

@@ -1,7 +1,9 @@
 pub mod Numbers
 pub mod Faults
+pub mod Kinds
 pub mod Frames
 pub mod Settings
+pub mod Parameters
 pub mod DataFrames
 pub mod Urgencies
 pub mod Grammar

@@ -1,5 +1,5 @@
 -- The pairs of a SETTINGS frame: RFC 9113, section 6.5.1.
-use Rattle.std.specs.Prelude.{◌≡◌, ℕ, zero, suc, ◌+◌, ◌/◌, ◌<◌, Bool, true, false, ◌&&◌, List, [], ◌∷◌, length, drop, Some, None, Option, nat_le, nat_lt}
+use Rattle.std.specs.Prelude.{◌≡◌, ℕ, zero, suc, ◌+◌, ◌/◌, Bool, true, false, List, [], ◌∷◌, length, drop, Some, None, Option, nat_le}
 use Rattle.wire.specs.declared.settings.Setting.{Setting}
 use Rattle.wire.specs.declared.settings.Pairs.{Pairs}
 use Rattle.wire.specs.Frames.{field}
@@ -17,18 +17,14 @@ settings_from (suc n) o at = setting_at o at ∷ settings_from n (drop 6 o) (at 
 abbrev pub settings_of : List ℕ → ℕ → List Setting
 settings_of o at = settings_from (length o / 6) o at
 
--- another pair is to come: six octets are left, and their end has a place of 32 bits
+-- another pair is to come: six octets are left
 abbrev pub more : Pairs → Bool
-more s = nat_le 6 (length s.octets.now) && nat_lt (s.place + 6) 4294967296
+more s = nat_le 6 (length s.octets.now)
 
 -- one step along the pairs: the pair that came, and what is left then; none where no other is to come, and then nothing moves
 abbrev pub Next : Pairs → Option Setting → Pairs → Type 0
 Next s None t = (more s ≡ false) × (t ≡ s)
 Next s (Some x) t = (more s ≡ true) × (x ≡ setting_at s.octets.now s.place) × (t.octets.now ≡ drop 6 s.octets.now) × (t.place ≡ s.place + 6)
-
--- the pairs end at a place of 32 bits, as those of every frame that is read do
-abbrev pub Ending : Pairs → Type 0
-Ending s = s.place + length s.octets.now < 4294967296
 
 -- the settings that are still to come
 abbrev pub to_come : Pairs → List Setting

@@ -4,6 +4,7 @@ ghost use Rattle.wire.specs.DataFrames.{told_data, data_of, encoded, put_at, wri
 
 use crate::Fault;
 use crate::headers::{Header, header_octets, read_header};
+use crate::kinds::Kind;
 
 // A DATA frame as it was read; the payload is a part of the frame's own octets.
 #[derive(Clone, Copy)]
@@ -12,9 +13,6 @@ pub struct Data<'a> {
     pub end: bool,
     pub payload: &'a [u8],
 }
-
-// The type of a DATA frame.
-const DATA: u8 = 0x0;
 
 // The flag of a DATA frame that ends its stream.
 const END_STREAM: u8 = 0x1;
@@ -27,7 +25,7 @@ pub fn read_data<'a>(octets: &'a [u8]) -> Result<Data<'a>, Fault>
     ensures { told_data result ≡ data_of octets.now }
 {
     let header = read_header(octets)?;
-    if header.kind != DATA {
+    if header.kind != Kind::Data.octet() {
         return Err(Fault::not_whole());
     }
     let (_, payload) = octets.split_at(9);
@@ -61,7 +59,7 @@ pub fn write_data(
     let flags = if end { END_STREAM } else { 0 };
     let header = header_octets(Header {
         length: n as u32,
-        kind: DATA,
+        kind: Kind::Data.octet(),
         flags,
         stream,
     });

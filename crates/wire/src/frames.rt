@@ -4,6 +4,7 @@ ghost use Rattle.wire.specs.Frames.{told, frame_of, settings_frame, window_updat
 
 use crate::Fault;
 use crate::headers::{Header, read_header};
+use crate::kinds::Kind;
 use crate::numbers::{number, without_top_bit};
 use crate::settings::Pairs;
 
@@ -34,14 +35,6 @@ pub enum Frame<'a> {
 // The longest payload of a frame that is read, which a peer that was told nothing else keeps to.
 const LONGEST: u32 = 16_384;
 
-const RST_STREAM: u8 = 0x3;
-
-const SETTINGS: u8 = 0x4;
-
-const WINDOW_UPDATE: u8 = 0x8;
-
-const PRIORITY_UPDATE: u8 = 0x10;
-
 // The flag of a SETTINGS frame that acknowledges ours.
 const ACK: u8 = 0x1;
 
@@ -53,12 +46,12 @@ pub fn read_frame<'a>(octets: &'a [u8]) -> Result<Frame<'a>, Fault>
     if header.length > LONGEST {
         return Err(Fault::frame_size());
     }
-    match header.kind {
-        RST_STREAM => read_reset_stream(header, octets),
-        SETTINGS => read_settings(header, octets),
-        WINDOW_UPDATE => read_window_update(header, octets),
-        PRIORITY_UPDATE => read_priority_update(header, octets),
-        _ => Ok(Frame::Other {
+    match Kind::try_from(header.kind) {
+        Ok(Kind::ResetStream) => read_reset_stream(header, octets),
+        Ok(Kind::Settings) => read_settings(header, octets),
+        Ok(Kind::WindowUpdate) => read_window_update(header, octets),
+        Ok(Kind::PriorityUpdate) => read_priority_update(header, octets),
+        Ok(Kind::Data) | Err(_) => Ok(Frame::Other {
             kind: header.kind,
             stream: header.stream,
         }),

@@ -73,7 +73,7 @@ fn urgency_of(item: Option<Item>) -> Urgency
             if n < 0 || n > 7 {
                 return Urgency::U3;
             }
-            Urgency::new(n as u8).unwrap_or(Urgency::U3)
+            Urgency::try_from(n as u8).unwrap_or(Urgency::U3)
         }
         Some(Item::Boolean(_)) => Urgency::U3,
         None => Urgency::U3,

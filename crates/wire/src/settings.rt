@@ -1,7 +1,5 @@
 // The pairs of a SETTINGS frame, gone through in order.
-ghost use Rattle.std.specs.Prelude.{length};
-ghost use Rattle.wire.specs.Settings.{Next};
-ghost use Rattle.std.specs.Iterator.{at_most};
+ghost use Rattle.std.specs.Prelude.{◌+◌, ◌^◌, ◌<◌, length};
 
 use crate::numbers::number;
 
@@ -18,25 +16,31 @@ pub struct Setting {
 pub struct Pairs<'a> {
     pub(crate) octets: &'a [u8],
     pub(crate) place: u32,
+    // The pairs end at a place of 32 bits.
+    pub ghost ending: { place + length octets.now < 2 ^ 32 },
 }
 
 impl<'a> Iterator for Pairs<'a> {
+    ghost use Rattle.std.specs.Iterator.{at_most};
+    ghost use Rattle.wire.specs.Settings.{Next};
+
     type Item = Setting;
 
     ghost next_gives = { λ s r t. Next s r t };
 
     ghost remaining = { λ s. at_most (length s.octets.now) };
 
-    // The next pair; none where fewer than six octets are left, or the place would pass 32 bits.
+    // The next pair; none where fewer than six octets are left.
     fn next(&mut self) -> Option<Setting> {
-        let place = self.place;
-        let after = place.checked_add(6)?;
         if self.octets.len() < 6 {
             return None;
         }
         let (pair, rest) = self.octets.split_at(6);
-        self.octets = rest;
-        self.place = after;
+        let place = self.place;
+        *self = Pairs {
+            octets: rest,
+            place: place + 6,
+        };
         Some(Setting {
             identifier: number(&pair[0..2]) as u16,
             value: number(&pair[2..6]),

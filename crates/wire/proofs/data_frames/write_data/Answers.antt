@@ -13,7 +13,7 @@ returns c =
     let octets : List ℕ = encoded c.args.stream c.args.end payload in
     let flags : c.if-end.flags ≡ cond c.args.end 1 0 = elim c.if-end.branch [ then-end w ↦ search rules | else-end w ↦ search rules ] in
     let header : c.copy_from_slice.new.self ≡ header_octets (record { length = length payload; kind = 0; flags = cond c.args.end 1 0; stream = c.args.stream })
-    = c.copy_from_slice.ensures.after ∙ c.header_octets-header.ensures ∙ ap (λ f. header_octets (record { length = length payload; kind = 0; flags = f; stream = c.args.stream })) flags in
+    = c.copy_from_slice.ensures.after ∙ c.header_octets-header.ensures ∙ (λ i. header_octets (record { length = length payload; kind = c.octet.ensures i; flags = flags i; stream = c.args.stream })) in
     let body = c.copy_from_slice-2.ensures.after in
     let put : put_mid (c.args.at + 9) (c.args.at + (9 + length payload) - (c.args.at + 9)) (put_mid c.args.at (c.args.at + 9 - c.args.at) c.args.memory.now c.copy_from_slice.new.self) c.copy_from_slice-2.new.self ≡ put_at c.args.memory.now c.args.at octets = two-puts c.args.memory.now c.copy_from_slice.new.self c.copy_from_slice-2.new.self c.args.at 9 (length payload) _ _
     (ap length header) (ap length body) (omega arith) (omega arith) (omega arith)
