@@ -21,8 +21,6 @@ impl<G: Gate> Cap<G> {
 }
 
 impl<G: Gate> Gate for Cap<G> {
-    ghost valid = { λ s. G.Gate.valid s.below };
-
     ghost meaning = { λ s. G.Gate.meaning s.below };
 
     ghost free = { λ s id. min (G.Gate.free s.below id) s.most };

@@ -45,9 +45,10 @@ impl Layout for Offset {
 
 // A gate of limit 64 whose room is the largest that the law allows.
 #[derive(Drop)]
-pub struct Windows<L> {
+pub struct Windows<L: Layout> {
     books: Books,
     layout: PhantomData<L>,
+    ghost stored: { books.storage ≡ L.Layout.stored },
 }
 
 // Stores each stream's window as it stands.
@@ -59,7 +60,7 @@ pub type OffsetWindows = Windows<Offset>;
 impl<L: Layout> Windows<L> {
     // A fresh gate.
     pub fn new(heap: Global) -> Result<Windows<L>, AllocError>
-        ensures { IfOk result (λ g. (meaning_of g.books ≡ fresh 64) × (g.books.storage ≡ L.Layout.stored)) }
+        ensures { IfOk result (λ g. meaning_of g.books ≡ fresh 64) }
     {
         let books = Books::new(heap, L::storage())?;
         Ok(Windows {
@@ -70,15 +71,13 @@ impl<L: Layout> Windows<L> {
 }
 
 impl<L: Layout> Gate for Windows<L> {
-    ghost valid = { λ g. g.books.storage ≡ L.Layout.stored };
-
     ghost meaning = { λ g. meaning_of g.books };
 
     ghost free = { λ g. most_room (meaning_of g.books) };
 
     ghost moved = { λ s call t. meaning_of t.books ≡ after (meaning_of s.books) call };
 
-    ghost sound = { λ w valid. books-sound w.books };
+    ghost sound = { λ w. books-sound w.books };
 
     ghost roomy = { Prim.search rules };
 
