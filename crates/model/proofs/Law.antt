@@ -10,7 +10,7 @@ use Rattle.model.specs.Calls.{Ask, lease, Answer}
 use Rattle.model.specs.States.{Stream, State, Moment, Paired, Tied}
 use Rattle.model.specs.Happenings.{Happening, happened, after}
 use Rattle.model.specs.Histories.{History, start, call, Tale, tale_of, open_in, priority_in, live_in, given_in, total_on, open_grants}
-use Rattle.model.specs.Laws.{Meant, Fresh, Runs, EachWithin, Balances, Law, FairGrant, FairLease, Fair, Every-run, Spot, GoesOn, Steps}
+use Rattle.model.specs.Laws.{Meant, Fresh, Runs, EachWithin, Balances, Law, FairGrant, FairLease, Fair, Every-run, GoesOn, Steps}
 use Rattle.model.specs.Rules.{Answers, dead, leases, used_up, none_ready, leased, Ready, ReadyStream, grantable}
 use Rattle.model.specs.declared.calls.Grant.{Grant}
 use Rattle.model.proofs.Points.{none-some, some_is, some_of, some_same, cases-is, cases_of}
@@ -152,10 +152,10 @@ pub run-tied : (m : Moment) (h : History) (n : Moment) → Fresh m → Runs m h 
 run-tied m h n fresh run = let k = kept m h n fresh run in tied_of (tale_of h) n.state k.0.ties
 
 -- one call by the rules goes on
-pub goes_on : (e x : Spot) (a : Ask) (r : Answer) → (x.valid → Meant x.moment) → Steps e a r x → GoesOn e a r x
-goes_on e x a r behind step m h reached =
-    let k = kept m h e.moment reached.fresh reached.run in
-    let done = step reached.valid (tied_of (tale_of h) e.moment.state k.0.ties) k.1 in
-    let run : Runs m (call h a r) x.moment = (e.moment, reached.run, record { answers = done.0; leaves = done.1; meant = behind done.2 }) in
-    let all = every-run m (call h a r) x.moment reached.fresh run in
-    record { reached = record { fresh = reached.fresh; run = run; valid = done.2 }; law = all.0; fair = all.1 }
+pub goes_on : (e x : Moment) (a : Ask) (r : Answer) → Meant x → Steps e a r x → GoesOn e a r x
+goes_on e x a r meant step m h reached =
+    let k = kept m h e reached.fresh reached.run in
+    let done = step (tied_of (tale_of h) e.state k.0.ties) k.1 in
+    let run : Runs m (call h a r) x = (e, reached.run, record { answers = done.0; leaves = done.1; meant = meant }) in
+    let all = every-run m (call h a r) x reached.fresh run in
+    record { reached = record { fresh = reached.fresh; run = run }; law = all.0; fair = all.1 }

@@ -103,31 +103,25 @@ Fair m (call h a r) n run = Fair m h run.0 run.1 × FairLease (tale_of h) run.0 
 abbrev pub Every-run : Type 0
 Every-run = (m : Moment) (h : History) (n : Moment) → Fresh m → (run : Runs m h n) → Law (tale_of h) n.state × Fair m h n run
 
--- where a connection stands, and what its gate and its policy keep between calls
-pub record Spot : Type 1 where
-  pub moment : Moment
-  pub valid : Type 0
-
--- a history leads from a fresh moment to where a connection stands
-pub record Reached (m : Moment) (h : History) (p : Spot) : Type 0 where
+-- a history leads from a fresh moment to another
+pub record Reached (m : Moment) (h : History) (n : Moment) : Type 0 where
   pub fresh : Fresh m
-  pub run : Runs m h p.moment
-  pub valid : p.valid
+  pub run : Runs m h n
 
 -- the history leads there, the law holds of it, and every lease was fair
-pub record Lawful (m : Moment) (h : History) (p : Spot) : Type 0 where
-  pub reached : Reached m h p
-  pub law : Law (tale_of h) p.moment.state
-  pub fair : Fair m h p.moment reached.run
+pub record Lawful (m : Moment) (h : History) (n : Moment) : Type 0 where
+  pub reached : Reached m h n
+  pub law : Law (tale_of h) n.state
+  pub fair : Fair m h n reached.run
 
 -- whatever led from a fresh start to where a call found a connection, extended by the call and its answer, leads to where it left it
-abbrev pub GoesOn : Spot → Ask → Answer → Spot → Type 0
+abbrev pub GoesOn : Moment → Ask → Answer → Moment → Type 0
 GoesOn e a r x = (m : Moment) (h : History) → Reached m h e → Lawful m (call h a r) x
 
--- one call by the rules, where gate and policy are valid and all stands together; they stay valid
-abbrev pub Steps : Spot → Ask → Answer → Spot → Type 0
-Steps e a r x = e.valid → Tied e.moment.state → Meant e.moment → (Answers e.moment a r) × (x.moment.state ≡ after e.moment.state (happened a r)) × x.valid
+-- one call by the rules, where all stands together
+abbrev pub Steps : Moment → Ask → Answer → Moment → Type 0
+Steps e a r x = Tied e.state → Meant e → (Answers e a r) × (x.state ≡ after e.state (happened a r))
 
--- a new connection over a fresh and valid gate and policy stands, beside a sink that has taken nothing, at a fresh moment
-abbrev pub Begins : credit.Meaning → schedule.Ranks → Type 0 → sink.Meaning → Spot → Type 0
-Begins g p valid k spot = g ≡ credit.fresh g.limit → p ≡ schedule.fresh p.limit → k ≡ sink.fresh k.space → valid → Reached spot.moment start spot
+-- a new connection over a fresh gate and a fresh policy stands, beside a sink that has taken nothing, at a fresh moment
+abbrev pub Begins : credit.Meaning → schedule.Ranks → sink.Meaning → Moment → Type 0
+Begins g p k n = g ≡ credit.fresh g.limit → p ≡ schedule.fresh p.limit → k ≡ sink.fresh k.space → Reached n start n

@@ -7,9 +7,6 @@ use wire::Priority;
 
 // A policy: each call is accepted or refused, and a refusal or a question alters nothing.
 pub trait Policy {
-    // what the policy keeps in step between calls; a constructor makes it hold, and every call keeps it
-    ghost valid: { Self → Type 0 };
-
     ghost ranks: { Self → Ranks };
 
     // the choice among a list of ids
@@ -20,52 +17,47 @@ pub trait Policy {
 
     // Adds an id with a priority.
     fn enter(&mut self, id: u32, priority: Priority) -> bool
-        ensures does { valid self.old → Did ranks turned (entered id priority) self.old result self.new }
-        ensures keeps { valid self.old → valid self.new };
+        ensures { Did ranks turned (entered id priority) self.old result self.new };
 
     // Sets an id's priority.
     fn alter(&mut self, id: u32, priority: Priority) -> bool
-        ensures does { valid self.old → Did ranks turned (altered id priority) self.old result self.new }
-        ensures keeps { valid self.old → valid self.new };
+        ensures { Did ranks turned (altered id priority) self.old result self.new };
 
     // Takes an id out.
     fn leave(&mut self, id: u32) -> bool
-        ensures does { valid self.old → Did ranks turned (left id) self.old result self.new }
-        ensures keeps { valid self.old → valid self.new };
+        ensures { Did ranks turned (left id) self.old result self.new };
 
     // Reports that an id was granted octets.
     fn served(&mut self, id: u32, octets: u32)
-        ensures does { valid self.old → Served ranks turned id octets self.old self.new }
-        ensures keeps { valid self.old → valid self.new };
+        ensures { Served ranks turned id octets self.old self.new };
 
     // The id whose turn it is among a list; none where no listed id is in.
     fn choose(&self, ids: &[u32]) -> Option<u32>
-        ensures { valid self.now → result ≡ picks self.now ids.now };
+        ensures { result ≡ picks self.now ids.now };
 
     // An id's priority; none where it is not in.
     fn priority(&self, id: u32) -> Option<Priority>
-        ensures { valid self.now → result ≡ (ranks self.now).rank id };
+        ensures { result ≡ (ranks self.now).rank id };
 
     // How many ids are in.
     fn entered(&self) -> u32
-        ensures { valid self.now → result ≡ (ranks self.now).entered };
+        ensures { result ≡ (ranks self.now).entered };
 
     // How many ids can be in at a time.
     fn limit(&self) -> u32
-        ensures { valid self.now → result ≡ (ranks self.now).limit };
+        ensures { result ≡ (ranks self.now).limit };
 
-    ghost sound: { (s : Self) → valid s → Sound (ranks s) };
+    ghost sound: { (s : Self) → Sound (ranks s) };
 
-    ghost least: { (s : Self) → valid s → (ids : List ℕ) → Least (ranks s) ids (picks s ids) };
+    ghost least: { (s : Self) → (ids : List ℕ) → Least (ranks s) ids (picks s ids) };
 
-    ghost means: { (s : Self) → valid s → (event : Event) (t : Self) → turned s event t → ranks t ≡ after (ranks s) event };
+    ghost means: { (s : Self) → (event : Event) (t : Self) → turned s event t → ranks t ≡ after (ranks s) event };
 }
 
 // Chooses among a list of ids and reports the choice as served.
 pub fn serve_next<P: Policy>(policy: &mut P, ids: &[u32], octets: u32) -> Option<u32>
-    ensures answers { P.Policy.valid policy.old → result ≡ P.Policy.picks policy.old ids.now }
-    ensures serves { P.Policy.valid policy.old → ServedNext P.Policy.turned octets policy.old result policy.new }
-    ensures keeps { P.Policy.valid policy.old → P.Policy.valid policy.new }
+    ensures answers { result ≡ P.Policy.picks policy.old ids.now }
+    ensures serves { ServedNext P.Policy.turned octets policy.old result policy.new }
 {
     let chosen = policy.choose(ids);
     if let Some(id) = chosen {

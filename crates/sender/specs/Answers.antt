@@ -10,7 +10,7 @@ use Rattle.wire.specs.declared.settings.Setting.{Setting}
 use Rattle.credit.specs.Credit.{MAX}
 use Rattle.model.specs.Calls.{fault, frame}
 use Rattle.model.specs.Happenings.{Happening, after, frame_does, closing, happened}
-use Rattle.model.specs.Laws.{Meant, Spot}
+use Rattle.model.specs.Laws.{Meant}
 use Rattle.model.specs.Rules.{IsOpen, IsClosed, Answers, AnswersFrame, PassesPair, RefusesPair, RefusesPairs}
 use Rattle.model.specs.States.{State, Moment, Tied}
 use Rattle.model.specs.declared.calls.Done.{Done}
@@ -45,8 +45,8 @@ abbrev pub handled : State → Told → Result Bool Fault → State
 handled s t (Ok accepted) = cond accepted (after s (frame_does (Ok t))) s
 handled s t (Err f) = cond (f.number == 6 || f.number == 7) (after s (closing f.stream)) s
 
-abbrev pub Handles : Spot → Told → Result Bool Fault → Spot → Type 0
-Handles e t r x = e.valid → Tied e.moment.state → Meant e.moment → (AnswersFrame e.moment t r) × (x.moment.state ≡ handled e.moment.state t r) × x.valid
+abbrev pub Handles : Moment → Told → Result Bool Fault → Moment → Type 0
+Handles e t r x = Tied e.state → Meant e → (AnswersFrame e t r) × (x.state ≡ handled e.state t r)
 
 -- a pair passes or is refused, and so does each of several, the first fault deciding
 abbrev pub TestsPair : Moment → Setting → Result (Unit {0}) Fault → Type 0
@@ -75,5 +75,5 @@ ends_with (Err f) = f.number == 3 || (f.number == 4 || f.number == 5)
 abbrev pub before_end : State → Happening → State
 before_end s e = record { gate = (after s e).gate; ranks = (after s e).ranks; sink = (after s e).sink; streams = (after s e).streams; many = (after s e).many; live = s.live; frame_size = (after s e).frame_size; highest = (after s e).highest; given = (after s e).given }
 
-abbrev pub Receives : Spot → List ℕ → Result Done Fault → Spot → Type 0
-Receives e octets r x = e.moment.state.live ≡ true → e.valid → Tied e.moment.state → Meant e.moment → (Answers e.moment (frame octets) r) × (x.moment.state ≡ before_end e.moment.state (happened (frame octets) r)) × x.valid
+abbrev pub Receives : Moment → List ℕ → Result Done Fault → Moment → Type 0
+Receives e octets r x = e.state.live ≡ true → Tied e.state → Meant e → (Answers e (frame octets) r) × (x.state ≡ before_end e.state (happened (frame octets) r))

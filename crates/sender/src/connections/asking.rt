@@ -47,7 +47,7 @@ impl<G: Gate, P: Policy> Connection<G, P> {
 
     // Whether no stream more can be had.
     pub(crate) fn full(&self) -> bool
-        ensures { (k : Meaning) → G.Gate.valid self.now.gate → P.Policy.valid self.now.policy → Decides result (Full (state_of G.Gate.meaning P.Policy.ranks self.now k)) }
+        ensures { (k : Meaning) → Decides result (Full (state_of G.Gate P.Policy self.now k)) }
     {
         if self.streams.len() >= 64 {
             return true;

@@ -16,7 +16,7 @@ impl<G: Gate, P: Policy> Connection<G, P> {
     // A stream above all others begins.
     pub(crate) fn begin(&mut self, id: u32, priority: Priority)
         requires { self.old.highest < id }
-        ensures { (k : Meaning) → G.Gate.valid self.old.gate → P.Policy.valid self.old.policy → Tied (state_of G.Gate.meaning P.Policy.ranks self.old k) → (Full (state_of G.Gate.meaning P.Policy.ranks self.old k) → ⊥) → (state_of G.Gate.meaning P.Policy.ranks self.new k ≡ after (state_of G.Gate.meaning P.Policy.ranks self.old k) (starting id priority)) × G.Gate.valid self.new.gate × P.Policy.valid self.new.policy }
+        ensures { (k : Meaning) → Tied (state_of G.Gate P.Policy self.old k) → (Full (state_of G.Gate P.Policy self.old k) → ⊥) → (state_of G.Gate P.Policy self.new k ≡ after (state_of G.Gate P.Policy self.old k) (starting id priority)) }
     {
         let _ = self.gate.begin(id);
         let _ = self.policy.enter(id, priority);
@@ -31,7 +31,7 @@ impl<G: Gate, P: Policy> Connection<G, P> {
 
     // An open stream ends, and what it held goes back to the connection.
     pub(crate) fn close(&mut self, id: u32)
-        ensures { (k : Meaning) → G.Gate.valid self.old.gate → P.Policy.valid self.old.policy → Tied (state_of G.Gate.meaning P.Policy.ranks self.old k) → IsOpen (state_of G.Gate.meaning P.Policy.ranks self.old k) id → (state_of G.Gate.meaning P.Policy.ranks self.new k ≡ after (state_of G.Gate.meaning P.Policy.ranks self.old k) (closing id)) × G.Gate.valid self.new.gate × P.Policy.valid self.new.policy }
+        ensures { (k : Meaning) → Tied (state_of G.Gate P.Policy self.old k) → IsOpen (state_of G.Gate P.Policy self.old k) id → (state_of G.Gate P.Policy self.new k ≡ after (state_of G.Gate P.Policy self.old k) (closing id)) }
     {
         let _ = self.gate.finish(id);
         let _ = self.policy.leave(id);

@@ -5,7 +5,7 @@ ghost use Rattle.wire.specs.Values.{value_of};
 ghost use Rattle.model.specs.Calls.{opening, offer};
 ghost use Rattle.model.specs.Laws.{Steps, GoesOn};
 ghost use Rattle.model.specs.Rules.{read_or};
-ghost use Rattle.sender.specs.Connections.{spot_of};
+ghost use Rattle.sender.specs.Connections.{moment_of};
 
 use crate::connections::Connection;
 use crate::connections::asking::refusal;
@@ -29,7 +29,7 @@ fn first_priority(value: &[u8]) -> Priority
 
 impl<G: Gate, P: Policy> Connection<G, P> {
     fn opened(&mut self, id: u32, value: &[u8]) -> Result<Done, Fault>
-        ensures { (k : Meaning) → Steps (spot_of G.Gate.meaning G.Gate.free G.Gate.valid P.Policy.ranks P.Policy.picks P.Policy.valid self.old k) (opening id value.now) result (spot_of G.Gate.meaning G.Gate.free G.Gate.valid P.Policy.ranks P.Policy.picks P.Policy.valid self.new k) }
+        ensures { (k : Meaning) → Steps (moment_of G.Gate P.Policy self.old k) (opening id value.now) result (moment_of G.Gate P.Policy self.new k) }
     {
         self.alive()?;
         self.openable(id)?;
@@ -44,13 +44,13 @@ impl<G: Gate, P: Policy> Connection<G, P> {
 
     // Opens a stream with an empty queue and the priority that a value tells.
     pub fn open(&mut self, id: u32, value: &[u8]) -> Result<Done, Fault>
-        ensures { (k : Meaning) → GoesOn (spot_of G.Gate.meaning G.Gate.free G.Gate.valid P.Policy.ranks P.Policy.picks P.Policy.valid self.old k) (opening id value.now) result (spot_of G.Gate.meaning G.Gate.free G.Gate.valid P.Policy.ranks P.Policy.picks P.Policy.valid self.new k) }
+        ensures { (k : Meaning) → GoesOn (moment_of G.Gate P.Policy self.old k) (opening id value.now) result (moment_of G.Gate P.Policy self.new k) }
     {
         self.opened(id, value)
     }
 
     fn offered(&mut self, id: u32, octets: u32, end: bool) -> Result<Done, Fault>
-        ensures { (k : Meaning) → Steps (spot_of G.Gate.meaning G.Gate.free G.Gate.valid P.Policy.ranks P.Policy.picks P.Policy.valid self.old k) (offer id octets end) result (spot_of G.Gate.meaning G.Gate.free G.Gate.valid P.Policy.ranks P.Policy.picks P.Policy.valid self.new k) }
+        ensures { (k : Meaning) → Steps (moment_of G.Gate P.Policy self.old k) (offer id octets end) result (moment_of G.Gate P.Policy self.new k) }
     {
         self.alive()?;
         match self.streams.get_mut(id) {
@@ -61,7 +61,7 @@ impl<G: Gate, P: Policy> Connection<G, P> {
 
     // Queues octets of a stream, and perhaps their end.
     pub fn offer(&mut self, id: u32, octets: u32, end: bool) -> Result<Done, Fault>
-        ensures { (k : Meaning) → GoesOn (spot_of G.Gate.meaning G.Gate.free G.Gate.valid P.Policy.ranks P.Policy.picks P.Policy.valid self.old k) (offer id octets end) result (spot_of G.Gate.meaning G.Gate.free G.Gate.valid P.Policy.ranks P.Policy.picks P.Policy.valid self.new k) }
+        ensures { (k : Meaning) → GoesOn (moment_of G.Gate P.Policy self.old k) (offer id octets end) result (moment_of G.Gate P.Policy self.new k) }
     {
         self.offered(id, octets, end)
     }

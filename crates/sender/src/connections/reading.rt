@@ -33,7 +33,7 @@ pub struct ConnectionReading {
 impl<G: Gate, P: Policy> Connection<G, P> {
     // A stream's window; 0 where it is not open.
     fn window(&self, id: u32) -> i32
-        ensures { G.Gate.valid self.now.gate → result ≡ window_read ((G.Gate.meaning self.now.gate).stream id) }
+        ensures { result ≡ window_read ((G.Gate.meaning self.now.gate).stream id) }
     {
         match self.gate.window(id) {
             Some(window) => window,
@@ -43,7 +43,7 @@ impl<G: Gate, P: Policy> Connection<G, P> {
 
     // The octets of a stream's open grant; 0 where it has none.
     fn held(&self, id: u32) -> u32
-        ensures { G.Gate.valid self.now.gate → result ≡ held_by ((G.Gate.meaning self.now.gate).stream id) }
+        ensures { result ≡ held_by ((G.Gate.meaning self.now.gate).stream id) }
     {
         match self.gate.held(id) {
             Some(octets) => octets,
@@ -53,7 +53,7 @@ impl<G: Gate, P: Policy> Connection<G, P> {
 
     // What a stream has; 0 throughout where it is not open.
     pub fn stream(&self, id: u32) -> StreamReading
-        ensures { G.Gate.valid self.now.gate → result ≡ stream_read ((G.Gate.meaning self.now.gate).stream id) (G.Gate.free self.now.gate id) }
+        ensures { result ≡ stream_read ((G.Gate.meaning self.now.gate).stream id) (G.Gate.free self.now.gate id) }
     {
         let window = self.window(id);
         let held = self.held(id);
@@ -67,7 +67,7 @@ impl<G: Gate, P: Policy> Connection<G, P> {
 
     // What the connection has, and where it stands.
     pub fn reading(&self) -> ConnectionReading
-        ensures { G.Gate.valid self.now.gate → result ≡ connection_read (G.Gate.meaning self.now.gate) self.now.frame_size self.now.live self.now.highest self.now.given }
+        ensures { result ≡ connection_read (G.Gate.meaning self.now.gate) self.now.frame_size self.now.live self.now.highest self.now.given }
     {
         let window = self.gate.connection_window();
         let held = self.gate.connection_held();

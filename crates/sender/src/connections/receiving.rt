@@ -5,7 +5,7 @@ ghost use Rattle.wire.specs.Frames.{told_frame};
 ghost use Rattle.model.specs.Calls.{frame, type_of, stream_of};
 ghost use Rattle.model.specs.Laws.{Steps, GoesOn};
 ghost use Rattle.sender.specs.Answers.{Handles, Receives, Short, ends_with};
-ghost use Rattle.sender.specs.Connections.{spot_of};
+ghost use Rattle.sender.specs.Connections.{moment_of};
 
 use crate::connections::Connection;
 use credit::Gate;
@@ -55,7 +55,7 @@ impl<G: Gate, P: Policy> Connection<G, P> {
     // Accepts a frame that was read, passes it over, or refuses it.
     fn handled(&mut self, frame: Frame) -> Result<bool, Fault>
         requires { Short frame }
-        ensures { (k : Meaning) → Handles (spot_of G.Gate.meaning G.Gate.free G.Gate.valid P.Policy.ranks P.Policy.picks P.Policy.valid self.old k) (told_frame frame.entry) result (spot_of G.Gate.meaning G.Gate.free G.Gate.valid P.Policy.ranks P.Policy.picks P.Policy.valid self.new k) }
+        ensures { (k : Meaning) → Handles (moment_of G.Gate P.Policy self.old k) (told_frame frame.entry) result (moment_of G.Gate P.Policy self.new k) }
     {
         match frame {
             Frame::Settings(pairs) => self.settings(pairs),
@@ -73,7 +73,7 @@ impl<G: Gate, P: Policy> Connection<G, P> {
 
     // Reads a frame and does what it tells; that a fault ends the connection is left to the caller.
     fn received(&mut self, octets: &[u8]) -> Result<Done, Fault>
-        ensures { (k : Meaning) → Receives (spot_of G.Gate.meaning G.Gate.free G.Gate.valid P.Policy.ranks P.Policy.picks P.Policy.valid self.old k) octets.now result (spot_of G.Gate.meaning G.Gate.free G.Gate.valid P.Policy.ranks P.Policy.picks P.Policy.valid self.new k) }
+        ensures { (k : Meaning) → Receives (moment_of G.Gate P.Policy self.old k) octets.now result (moment_of G.Gate P.Policy self.new k) }
     {
         let frame = read_frame(octets)?;
         let accepted = self.handled(frame)?;
@@ -85,7 +85,7 @@ impl<G: Gate, P: Policy> Connection<G, P> {
     }
 
     fn framed(&mut self, octets: &[u8]) -> Result<Done, Fault>
-        ensures { (k : Meaning) → Steps (spot_of G.Gate.meaning G.Gate.free G.Gate.valid P.Policy.ranks P.Policy.picks P.Policy.valid self.old k) (frame octets.now) result (spot_of G.Gate.meaning G.Gate.free G.Gate.valid P.Policy.ranks P.Policy.picks P.Policy.valid self.new k) }
+        ensures { (k : Meaning) → Steps (moment_of G.Gate P.Policy self.old k) (frame octets.now) result (moment_of G.Gate P.Policy self.new k) }
     {
         self.alive()?;
         let answer = self.received(octets);
@@ -97,7 +97,7 @@ impl<G: Gate, P: Policy> Connection<G, P> {
 
     // Takes the octets of one frame that the peer sent.
     pub fn frame(&mut self, octets: &[u8]) -> Result<Done, Fault>
-        ensures { (k : Meaning) → GoesOn (spot_of G.Gate.meaning G.Gate.free G.Gate.valid P.Policy.ranks P.Policy.picks P.Policy.valid self.old k) (frame octets.now) result (spot_of G.Gate.meaning G.Gate.free G.Gate.valid P.Policy.ranks P.Policy.picks P.Policy.valid self.new k) }
+        ensures { (k : Meaning) → GoesOn (moment_of G.Gate P.Policy self.old k) (frame octets.now) result (moment_of G.Gate P.Policy self.new k) }
     {
         self.framed(octets)
     }

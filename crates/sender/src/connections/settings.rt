@@ -8,7 +8,7 @@ ghost use Rattle.model.specs.Happenings.{after, renewing, last_of};
 ghost use Rattle.model.specs.Laws.{Meant};
 ghost use Rattle.model.specs.States.{Tied};
 ghost use Rattle.sender.specs.Answers.{Handles, TestsPair, TestsPairs};
-ghost use Rattle.sender.specs.Connections.{spot_of, state_of, moment_of};
+ghost use Rattle.sender.specs.Connections.{moment_of, state_of, moment_of};
 
 use crate::connections::Connection;
 use crate::connections::asking::refusal;
@@ -60,14 +60,14 @@ fn window_fits(window: Option<i32>, before: u32, v: u32) -> bool
 impl<G: Gate, P: Policy> Connection<G, P> {
     // Whether a stream's window does not pass the maximum when a new initial window takes the place of the one before.
     fn stream_fits(&self, id: u32, before: u32, v: u32) -> bool
-        ensures { G.Gate.valid self.now.gate → Decides result (IfSome ((G.Gate.meaning self.now.gate).stream id) (λ c. (shifted before v c).window ≤ℤ pos 2147483647)) }
+        ensures { Decides result (IfSome ((G.Gate.meaning self.now.gate).stream id) (λ c. (shifted before v c).window ≤ℤ pos 2147483647)) }
     {
         window_fits(self.gate.window(id), before, v)
     }
 
     // Whether neither an initial window nor a stream's window under it passes the maximum.
     fn initial_fits(&self, v: u32) -> bool
-        ensures { (k : Meaning) → G.Gate.valid self.now.gate → Tied (state_of G.Gate.meaning P.Policy.ranks self.now k) → Decides result (Accepts (G.Gate.meaning self.now.gate) (G.Gate.free self.now.gate) (initial v)) }
+        ensures { (k : Meaning) → Tied (state_of G.Gate P.Policy self.now k) → Decides result (Accepts (G.Gate.meaning self.now.gate) (G.Gate.free self.now.gate) (initial v)) }
     {
         if v > 2_147_483_647 {
             return false;
@@ -83,7 +83,7 @@ impl<G: Gate, P: Policy> Connection<G, P> {
     }
 
     fn test_pair(&self, pair: Setting) -> Result<(), Fault>
-        ensures { (k : Meaning) → G.Gate.valid self.now.gate → Tied (state_of G.Gate.meaning P.Policy.ranks self.now k) → TestsPair (moment_of G.Gate.meaning G.Gate.free P.Policy.ranks P.Policy.picks self.now k) pair result }
+        ensures { (k : Meaning) → Tied (state_of G.Gate P.Policy self.now k) → TestsPair (moment_of G.Gate P.Policy self.now k) pair result }
     {
         if pair.identifier == INITIAL_WINDOW {
             if !self.initial_fits(pair.value) {
@@ -104,7 +104,7 @@ impl<G: Gate, P: Policy> Connection<G, P> {
 
     fn test_pairs(&self, pairs: Pairs) -> Result<(), Fault>
         requires { Ending pairs }
-        ensures { (k : Meaning) → G.Gate.valid self.now.gate → Tied (state_of G.Gate.meaning P.Policy.ranks self.now k) → TestsPairs (moment_of G.Gate.meaning G.Gate.free P.Policy.ranks P.Policy.picks self.now k) (to_come pairs.entry) result }
+        ensures { (k : Meaning) → Tied (state_of G.Gate P.Policy self.now k) → TestsPairs (moment_of G.Gate P.Policy self.now k) (to_come pairs.entry) result }
     {
         for pair in pairs {
             self.test_pair(pair)?;
@@ -114,7 +114,7 @@ impl<G: Gate, P: Policy> Connection<G, P> {
 
     // A new initial window and a new frame size take effect, each or none.
     fn renew(&mut self, window: Option<u32>, size: Option<u32>)
-        ensures { (k : Meaning) → G.Gate.valid self.old.gate → IfSome window (λ v. Accepts (G.Gate.meaning self.old.gate) (G.Gate.free self.old.gate) (initial v)) → (state_of G.Gate.meaning P.Policy.ranks self.new k ≡ after (state_of G.Gate.meaning P.Policy.ranks self.old k) (renewing window size)) × G.Gate.valid self.new.gate × (self.new.policy ≡ self.old.policy) }
+        ensures { (k : Meaning) → IfSome window (λ v. Accepts (G.Gate.meaning self.old.gate) (G.Gate.free self.old.gate) (initial v)) → (state_of G.Gate P.Policy self.new k ≡ after (state_of G.Gate P.Policy self.old k) (renewing window size)) }
     {
         if let Some(v) = window {
             let _ = self.gate.initial(v);
@@ -126,7 +126,7 @@ impl<G: Gate, P: Policy> Connection<G, P> {
 
     pub(crate) fn settings(&mut self, pairs: Pairs) -> Result<bool, Fault>
         requires { Ending pairs }
-        ensures { (k : Meaning) → Handles (spot_of G.Gate.meaning G.Gate.free G.Gate.valid P.Policy.ranks P.Policy.picks P.Policy.valid self.old k) (settings pairs.entry.octets.now pairs.entry.place) result (spot_of G.Gate.meaning G.Gate.free G.Gate.valid P.Policy.ranks P.Policy.picks P.Policy.valid self.new k) }
+        ensures { (k : Meaning) → Handles (moment_of G.Gate P.Policy self.old k) (settings pairs.entry.octets.now pairs.entry.place) result (moment_of G.Gate P.Policy self.new k) }
     {
         self.test_pairs(pairs)?;
         let window = last_value(pairs, INITIAL_WINDOW);

@@ -4,7 +4,7 @@ ghost use Rattle.sink.specs.Meaning.{Meaning};
 ghost use Rattle.wire.specs.Frames.{window_update, reset_stream, priority_update};
 ghost use Rattle.model.specs.Rules.{IsOpen};
 ghost use Rattle.sender.specs.Answers.{Handles, Stands};
-ghost use Rattle.sender.specs.Connections.{spot_of, state_of};
+ghost use Rattle.sender.specs.Connections.{moment_of, state_of};
 
 use crate::connections::Connection;
 use crate::connections::asking::refusal;
@@ -23,7 +23,7 @@ pub enum Standing {
 impl<G: Gate, P: Policy> Connection<G, P> {
     // Whether a stream is open, closed or idle.
     pub(crate) fn standing(&self, id: u32) -> Standing
-        ensures { (k : Meaning) → Stands (state_of G.Gate.meaning P.Policy.ranks self.now k) id result }
+        ensures { (k : Meaning) → Stands (state_of G.Gate P.Policy self.now k) id result }
     {
         if let Some(_) = self.streams.get(id) {
             return Standing::Open;
@@ -39,7 +39,7 @@ impl<G: Gate, P: Policy> Connection<G, P> {
 
     // An increment of the connection's window.
     fn raise_connection(&mut self, increment: u32) -> Result<bool, Fault>
-        ensures { (k : Meaning) → Handles (spot_of G.Gate.meaning G.Gate.free G.Gate.valid P.Policy.ranks P.Policy.picks P.Policy.valid self.old k) (window_update 0 increment) result (spot_of G.Gate.meaning G.Gate.free G.Gate.valid P.Policy.ranks P.Policy.picks P.Policy.valid self.new k) }
+        ensures { (k : Meaning) → Handles (moment_of G.Gate P.Policy self.old k) (window_update 0 increment) result (moment_of G.Gate P.Policy self.new k) }
     {
         if increment == 0 {
             return Err(refusal(4, 1, 0, 9));
@@ -52,7 +52,7 @@ impl<G: Gate, P: Policy> Connection<G, P> {
 
     // An increment of an open stream's window.
     fn raise_stream(&mut self, id: u32, increment: u32) -> Result<bool, Fault>
-        ensures { (k : Meaning) → IsOpen (state_of G.Gate.meaning P.Policy.ranks self.old k) id → Handles (spot_of G.Gate.meaning G.Gate.free G.Gate.valid P.Policy.ranks P.Policy.picks P.Policy.valid self.old k) (window_update id increment) result (spot_of G.Gate.meaning G.Gate.free G.Gate.valid P.Policy.ranks P.Policy.picks P.Policy.valid self.new k) }
+        ensures { (k : Meaning) → IsOpen (state_of G.Gate P.Policy self.old k) id → Handles (moment_of G.Gate P.Policy self.old k) (window_update id increment) result (moment_of G.Gate P.Policy self.new k) }
     {
         if increment == 0 {
             self.close(id);
@@ -66,7 +66,7 @@ impl<G: Gate, P: Policy> Connection<G, P> {
     }
 
     pub(crate) fn window_update(&mut self, id: u32, increment: u32) -> Result<bool, Fault>
-        ensures { (k : Meaning) → Handles (spot_of G.Gate.meaning G.Gate.free G.Gate.valid P.Policy.ranks P.Policy.picks P.Policy.valid self.old k) (window_update id increment) result (spot_of G.Gate.meaning G.Gate.free G.Gate.valid P.Policy.ranks P.Policy.picks P.Policy.valid self.new k) }
+        ensures { (k : Meaning) → Handles (moment_of G.Gate P.Policy self.old k) (window_update id increment) result (moment_of G.Gate P.Policy self.new k) }
     {
         if id == 0 {
             return self.raise_connection(increment);
@@ -79,7 +79,7 @@ impl<G: Gate, P: Policy> Connection<G, P> {
     }
 
     pub(crate) fn reset_stream(&mut self, id: u32, code: u32) -> Result<bool, Fault>
-        ensures { (k : Meaning) → Handles (spot_of G.Gate.meaning G.Gate.free G.Gate.valid P.Policy.ranks P.Policy.picks P.Policy.valid self.old k) (reset_stream id code) result (spot_of G.Gate.meaning G.Gate.free G.Gate.valid P.Policy.ranks P.Policy.picks P.Policy.valid self.new k) }
+        ensures { (k : Meaning) → Handles (moment_of G.Gate P.Policy self.old k) (reset_stream id code) result (moment_of G.Gate P.Policy self.new k) }
     {
         if id == 0 {
             return Err(refusal(4, 1, 0, 5));
@@ -100,7 +100,7 @@ impl<G: Gate, P: Policy> Connection<G, P> {
         value: &[u8],
         place: u32,
     ) -> Result<bool, Fault>
-        ensures { (k : Meaning) → Handles (spot_of G.Gate.meaning G.Gate.free G.Gate.valid P.Policy.ranks P.Policy.picks P.Policy.valid self.old k) (priority_update target value.now place) result (spot_of G.Gate.meaning G.Gate.free G.Gate.valid P.Policy.ranks P.Policy.picks P.Policy.valid self.new k) }
+        ensures { (k : Meaning) → Handles (moment_of G.Gate P.Policy self.old k) (priority_update target value.now place) result (moment_of G.Gate P.Policy self.new k) }
     {
         if target % 2 == 0 {
             return Err(refusal(4, 1, 0, 9));

@@ -14,11 +14,8 @@ invariant_of-self g c =
     }
 
 pub returns : goal.returns
-returns g c k gated ruled tied unfull =
+returns g c k tied unfull =
     let s = c.args.self.now in
-    let did = c.begin.ensures.does gated in
-    let turned = c.enter.ensures.does ruled in (
-      begin-state _ (vec_items s.streams.rows) refl refl s.order tied _ (vec_capacity s.streams.rows) c.args.id c.args.priority (g.G.Gate.free s.gate) _ _ c.begin.result c.enter.result c.add.result c.requires unfull s.few.1 did.answers.1 did.leaves turned.answers.1 (λ e. g.met.P.Policy.means _ ruled _ _ (turned.turns e)) c.add.ensures.answers c.add.ensures.rows,
-      c.begin.ensures.keeps gated,
-      c.enter.ensures.keeps ruled,
-    )
+    let did = c.begin.ensures in
+    let turned = c.enter.ensures in
+    begin-state _ (vec_items s.streams.rows) refl refl s.order tied _ (vec_capacity s.streams.rows) c.args.id c.args.priority (g.G.Gate.free s.gate) _ _ c.begin.result c.enter.result c.add.result c.requires unfull s.few.1 did.answers.1 did.leaves turned.answers.1 (λ e. g.met.P.Policy.means _ _ _ (turned.turns e)) c.add.ensures.answers c.add.ensures.rows

@@ -13,11 +13,8 @@ invariant_of-self g c =
     }
 
 pub returns : goal.returns
-returns g c k gated ruled tied is =
+returns g c k tied is =
     let s = c.args.self.now in
-    let did = c.finish.ensures.does gated in
-    let turned = c.leave.ensures.does ruled in (
-      close-state _ (vec_items s.streams.rows) refl refl s.order tied _ c.args.id (g.G.Gate.free s.gate) _ _ c.finish.result c.leave.result is did.answers.1 did.leaves turned.answers.1 (λ e. g.met.P.Policy.means _ ruled _ _ (turned.turns e)) c.remove.ensures.rows,
-      c.finish.ensures.keeps gated,
-      c.leave.ensures.keeps ruled,
-    )
+    let did = c.finish.ensures in
+    let turned = c.leave.ensures in
+    close-state _ (vec_items s.streams.rows) refl refl s.order tied _ c.args.id (g.G.Gate.free s.gate) _ _ c.finish.result c.leave.result is did.answers.1 did.leaves turned.answers.1 (λ e. g.met.P.Policy.means _ _ _ (turned.turns e)) c.remove.ensures.rows

@@ -6,4 +6,4 @@ use Rattle.sender.proofs.connections.Connection.initial_fits.Given as goal
 -- the streams that were passed fit
 abbrev pub invariant-loop-stream : goal.invariant-loop-stream
 invariant-loop-stream g l =
-    g.G.Gate.valid l.self.gate → (j : ℕ) → j < l.stream-index → IfSome ((g.G.Gate.meaning l.self.gate).stream (get_or (map id_of l.rows) j 0)) (λ c. (shifted l.before l.v c).window ≤ℤ pos 2147483647)
+    (j : ℕ) → j < l.stream-index → IfSome ((g.G.Gate.meaning l.self.gate).stream (get_or (map id_of l.rows) j 0)) (λ c. (shifted l.before l.v c).window ≤ℤ pos 2147483647)

@@ -14,10 +14,10 @@ pub returns-in_err-alive : goal.returns-in_err-alive
 returns-in_err-alive g c =
     let p = err_from_is_err_and c.from_residual.result c.from_residual.ensures.1 in
     let a = c.in_err-alive.ensures in
-    rw (p.1, p.2, a.1) (λ k valid tied meant. (dead a.0, refl, valid))
+    rw (p.1, p.2, a.1) (λ k tied meant. (dead a.0, refl))
 
 pub returns-in-None : goal.returns-in-None
-returns-in-None g c = rw c.refusal.ensures (λ k valid tied meant. (offers c.in_ok-alive.ensures (not_open (ap (option_map plain) (record-absent id_of (vec_items c.args.self.now.streams.rows) c.args.id c.in-None.ensures.finds))), refl, valid))
+returns-in-None g c = rw c.refusal.ensures (λ k tied meant. (offers c.in_ok-alive.ensures (not_open (ap (option_map plain) (record-absent id_of (vec_items c.args.self.now.streams.rows) c.args.id c.in-None.ensures.finds))), refl))
 
 pub invariant_of-self-in-Some : goal.invariant_of-self-in-Some
 invariant_of-self-in-Some g c =
@@ -27,7 +27,7 @@ invariant_of-self-in-Some g c =
     record { few = (omega (arith, length-set xs (seek (map id_of xs) c.args.id) c.offer.new.self, s.few.0), s.few.1); order = ordered-set 0 s.highest c.args.id xs c.offer.new.self (offers-named c.in-Some.stream.now c.args.octets c.args.end c.offer.result c.offer.new.self c.offer.ensures ∙ is.named) is.there s.order }
 
 pub returns-in-Some : goal.returns-in-Some
-returns-in-Some g c k valid tied meant =
+returns-in-Some g c k tied meant =
     let s = c.args.self.now in
-    let b = offers-state (state_of g.G.Gate.meaning g.P.Policy.ranks s k) (vec_items s.streams.rows) refl refl c.args.id c.in-Some.stream.now c.in-Some.ensures.finds c.args.octets c.args.end c.offer.result c.offer.new.self c.offer.ensures in
-    (offers c.in_ok-alive.ensures b.0, b.1, valid)
+    let b = offers-state (state_of g.G.Gate g.P.Policy s k) (vec_items s.streams.rows) refl refl c.args.id c.in-Some.stream.now c.in-Some.ensures.finds c.args.octets c.args.end c.offer.result c.offer.new.self c.offer.ensures in
+    (offers c.in_ok-alive.ensures b.0, b.1)

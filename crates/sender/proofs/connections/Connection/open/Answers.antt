@@ -3,4 +3,4 @@ use Rattle.sender.proofs.Meanings.{meant-of}
 use Rattle.sender.proofs.connections.Connection.open.Goals as goal
 
 pub returns : goal.returns
-returns g c k = goes_on _ _ _ _ (λ v. meant-of _ _ _ _ _ _ g.met.G.Gate.sound g.met.G.Gate.roomy g.met.P.Policy.least c.opened.new.self k v) (c.opened.ensures k)
+returns g c k = goes_on _ _ _ _ (meant-of g.G.Gate g.P.Policy g.met.G.Gate.sound g.met.G.Gate.roomy g.met.P.Policy.least c.opened.new.self k) (c.opened.ensures k)

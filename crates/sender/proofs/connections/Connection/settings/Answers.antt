@@ -14,17 +14,17 @@ pub returns-in_err-test_pairs : goal.returns-in_err-test_pairs
 returns-in_err-test_pairs g c =
     let p = err_from_is_err_and c.from_residual.result c.from_residual.ensures.1 in
     rw (p.1, p.2)
-    (λ k valid tied meant.
-    let refused = c.in_err-test_pairs.ensures k valid.0 tied in
-    (settings_refused refused, sym (pairs-stay _ _ (settings c.args.pairs.octets.now c.args.pairs.place) _ _ refused), valid))
+    (λ k tied meant.
+    let refused = c.in_err-test_pairs.ensures k tied in
+    (settings_refused refused, sym (pairs-stay _ _ (settings c.args.pairs.octets.now c.args.pairs.place) _ _ refused)))
 
 pub returns : goal.returns
-returns g c k valid tied meant =
+returns g c k tied meant =
     let s = c.args.self.now in
-    let state : State = state_of g.G.Gate.meaning g.P.Policy.ranks s k in
-    let m : Moment = moment_of g.G.Gate.meaning g.G.Gate.free g.P.Policy.ranks g.P.Policy.picks s k in
-    let passes = c.in_ok-test_pairs.ensures k valid.0 tied in
+    let state : State = state_of g.G.Gate g.P.Policy s k in
+    let m : Moment = moment_of g.G.Gate g.P.Policy s k in
+    let passes = c.in_ok-test_pairs.ensures k tied in
     let w = c.last_value-window.ensures in
     let z = c.last_value-size.ensures in
-    let b = c.renew.ensures k valid.0 (subst (λ o. IfSome o (λ v. Accepts state.gate m.room (initial v))) (sym w) (last-accepted m (to_come c.args.pairs) passes)) in
-    (settings_accepted passes, b.0 ∙ ap (λ o. after state (renewing o c.last_value-size.result)) w ∙ ap (λ o. after state (renewing (last_of 4 (to_come c.args.pairs)) o)) z, (b.1, subst g.P.Policy.valid (sym b.2) valid.1))
+    let b = c.renew.ensures k (subst (λ o. IfSome o (λ v. Accepts state.gate m.room (initial v))) (sym w) (last-accepted m (to_come c.args.pairs) passes)) in
+    (settings_accepted passes, b ∙ ap (λ o. after state (renewing o c.last_value-size.result)) w ∙ ap (λ o. after state (renewing (last_of 4 (to_come c.args.pairs)) o)) z)

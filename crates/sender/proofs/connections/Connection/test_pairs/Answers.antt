@@ -12,7 +12,7 @@ use Rattle.sender.proofs.connections.Connection.test_pairs.Goals as goal
 pub loop-pair-preserved : goal.loop-pair-preserved
 loop-pair-preserved g c =
     let n = c.in-Some.ensures.steps in (
-      (λ k valid tied. carries-more _ (to_come c.loop-pair.pair-iterator) _ _ c.in-Some.pair (next-comes c.loop-pair.pair-iterator c.next.new.self c.in-Some.pair n) (c.in_ok-test_pair.ensures k valid tied) (c.loop-pair.invariant.0 k valid tied)),
+      (λ k tied. carries-more _ (to_come c.loop-pair.pair-iterator) _ _ c.in-Some.pair (next-comes c.loop-pair.pair-iterator c.next.new.self c.in-Some.pair n) (c.in_ok-test_pair.ensures k tied) (c.loop-pair.invariant.0 k tied)),
       next-ends c.loop-pair.pair-iterator c.next.new.self c.in-Some.pair n c.loop-pair.invariant.1,
     )
 
@@ -21,9 +21,9 @@ returns-in_err-test_pair g c =
     let p = err_from_is_err_and c.from_residual.result c.from_residual.ensures.1 in
     let n = c.in-Some.ensures.steps in
     rw (p.1, p.2)
-    (λ k valid tied. subst (λ (s : Pairs). RefusesPairs (moment_of g.G.Gate.meaning g.G.Gate.free g.P.Policy.ranks g.P.Policy.picks c.args.self.now k) (to_come s) c.in_err-test_pair.field-0.0) c.into_iter-pair-iterator.ensures.into_iter_gives (carries-fault _ (to_come c.loop-pair.pair-iterator) _ _ c.in-Some.pair _ (next-comes c.loop-pair.pair-iterator c.next.new.self c.in-Some.pair n) (c.in_err-test_pair.ensures k valid tied) (c.loop-pair.invariant.0 k valid tied)))
+    (λ k tied. subst (λ (s : Pairs). RefusesPairs (moment_of g.G.Gate g.P.Policy c.args.self.now k) (to_come s) c.in_err-test_pair.field-0.0) c.into_iter-pair-iterator.ensures.into_iter_gives (carries-fault _ (to_come c.loop-pair.pair-iterator) _ _ c.in-Some.pair _ (next-comes c.loop-pair.pair-iterator c.next.new.self c.in-Some.pair n) (c.in_err-test_pair.ensures k tied) (c.loop-pair.invariant.0 k tied)))
 
 pub returns : goal.returns
-returns g c k valid tied =
+returns g c k tied =
     let none = none-comes c.loop-pair.pair-iterator c.next.new.self c.in-None.ensures.steps c.loop-pair.invariant.1 in
-    subst (λ (s : Pairs). AllByRecursion (PassesPair (moment_of g.G.Gate.meaning g.G.Gate.free g.P.Policy.ranks g.P.Policy.picks c.args.self.now k)) (to_come s)) c.into_iter-pair-iterator.ensures.into_iter_gives (carries-all _ _ _ none (c.loop-pair.invariant.0 k valid tied))
+    subst (λ (s : Pairs). AllByRecursion (PassesPair (moment_of g.G.Gate g.P.Policy c.args.self.now k)) (to_come s)) c.into_iter-pair-iterator.ensures.into_iter_gives (carries-all _ _ _ none (c.loop-pair.invariant.0 k tied))

@@ -8,4 +8,4 @@ use Rattle.sender.proofs.connections.Connection.test_pairs.Given as goal
 -- what is told of the pairs to come is told of all of them
 abbrev pub invariant-loop-pair : goal.invariant-loop-pair
 invariant-loop-pair g l =
-    ((k : Meaning) → g.G.Gate.valid l.self.gate → Tied (state_of g.G.Gate.meaning g.P.Policy.ranks l.self k) → Carries (moment_of g.G.Gate.meaning g.G.Gate.free g.P.Policy.ranks g.P.Policy.picks l.self k) (to_come l.pair-iterator) (to_come l.initial.pair-iterator)) × Ending l.pair-iterator
+    ((k : Meaning) → Tied (state_of g.G.Gate g.P.Policy l.self k) → Carries (moment_of g.G.Gate g.P.Policy l.self k) (to_come l.pair-iterator) (to_come l.initial.pair-iterator)) × Ending l.pair-iterator
