@@ -154,8 +154,7 @@ run-tied m h n fresh run = let k = kept m h n fresh run in tied_of (tale_of h) n
 -- one call by the rules goes on
 pub goes_on : (e x : Moment) (a : Ask) (r : Answer) → Meant x → Steps e a r x → GoesOn e a r x
 goes_on e x a r meant step m h reached =
-    let k = kept m h e reached.fresh reached.run in
-    let done = step (tied_of (tale_of h) e.state k.0.ties) k.1 in
+    let done = step (run-tied m h e reached.fresh reached.run) in
     let run : Runs m (call h a r) x = (e, reached.run, record { answers = done.0; leaves = done.1; meant = meant }) in
     let all = every-run m (call h a r) x reached.fresh run in
     record { reached = record { fresh = reached.fresh; run = run }; law = all.0; fair = all.1 }

@@ -25,10 +25,6 @@ asked (Settle grant payload) = settle grant payload.now
 abbrev pub Answer : Type 0
 Answer = Result Done Fault
 
--- a fault, by its number, its error code of RFC 9113, section 7, the stream and the place that it names
-abbrev pub fault : ℕ → ℕ → ℕ → ℕ → Fault
-fault number code stream place = record { number = number; code = code; stream = stream; place = place }
-
 -- a frame's type and the stream of its header: those of SETTINGS and PRIORITY_UPDATE are read on stream 0 only
 abbrev pub type_of : Told → ℕ
 type_of (settings o at) = 4

@@ -2,6 +2,7 @@
 use Rattle.std.specs.Prelude.{ℕ, ◌+◌, ◌-◌, Bool, true, false, cond, ◌||◌, List, [], ◌∷◌, Some, None, Ok, Err, Option, Result, ◌==◌, nat_eq}
 use Rattle.std.specs.Option.{option_map}
 use Rattle.std.specs.Map.{update}
+use Rattle.wire.specs.Faults.{number_of}
 use Rattle.wire.specs.Frames.{Told, settings, settings_ack, window_update, reset_stream, priority_update, other, frame_of}
 use Rattle.wire.specs.Settings.{settings_of}
 use Rattle.wire.specs.Values.{value_of}
@@ -111,12 +112,17 @@ frame_does (Ok (reset_stream id code)) = closing id
 frame_does (Ok (priority_update target value at)) = ranking target (value_of value)
 frame_does (Ok (other kind id)) = nothing
 
--- what a fault does: 3, 4 and 5 end the connection, 6 and 7 close the stream that they name, and the id of 10 counts as opened
+-- the faults 3, 4 and 5 end the connection
+abbrev pub ends : Fault → Bool
+ends f = number_of f.cause == 3 || (number_of f.cause == 4 || number_of f.cause == 5)
+
+-- the faults 6 and 7 close the stream that they name
+abbrev pub closes : Fault → Bool
+closes f = number_of f.cause == 6 || number_of f.cause == 7
+
+-- what a fault does: it ends the connection, closes the stream that it names, or, as 10 does, has its id count as opened
 abbrev pub fault_does : Fault → Happening
-fault_does f =
-    cond (f.number == 3 || (f.number == 4 || f.number == 5)) ending
-    (cond (f.number == 6 || f.number == 7) (closing f.stream)
-    (cond (f.number == 10) (skipping f.stream) nothing))
+fault_does f = cond (ends f) ending (cond (closes f) (closing f.stream) (cond (number_of f.cause == 10) (skipping f.stream) nothing))
 
 abbrev pub octets_in : Ask → List ℕ
 octets_in (frame o) = o

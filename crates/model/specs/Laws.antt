@@ -120,7 +120,7 @@ GoesOn e a r x = (m : Moment) (h : History) → Reached m h e → Lawful m (call
 
 -- one call by the rules, where all stands together
 abbrev pub Steps : Moment → Ask → Answer → Moment → Type 0
-Steps e a r x = Tied e.state → Meant e → (Answers e a r) × (x.state ≡ after e.state (happened a r))
+Steps e a r x = Tied e.state → Answers e a r × (x.state ≡ after e.state (happened a r))
 
 -- a new connection over a fresh gate and a fresh policy stands, beside a sink that has taken nothing, at a fresh moment
 abbrev pub Begins : credit.Meaning → schedule.Ranks → sink.Meaning → Moment → Type 0

@@ -1,9 +1,11 @@
 -- The rules: which answer comes to a call. RFC 9113, sections 5.1, 6.4, 6.5, 6.9, and RFC 9218, section 7.
 use Rattle.std.specs.Prelude.{◌≡◌, ℕ, ◌+◌, ◌-◌, ◌%◌, ◌<◌, ◌≤◌, min, Bool, true, false, ◌&&◌, ◌⊎◌, List, [], ◌∷◌, length, pos, ◌<ℤ◌, is_some, Some, None, Ok, Err, Option, Result, MatchOption, ◌==◌, ◌≢◌}
 use Rattle.std.specs.List.{AllByRecursion}
+use Rattle.wire.specs.Faults.{fault}
 use Rattle.wire.specs.Frames.{Told, settings, settings_ack, window_update, reset_stream, priority_update, other, frame_of}
 use Rattle.wire.specs.Settings.{settings_of}
 use Rattle.wire.specs.Values.{value_of}
+use Rattle.wire.specs.declared.faults.Cause.TheVariants as cause
 use Rattle.wire.specs.declared.faults.Fault.{Fault}
 use Rattle.wire.specs.declared.priorities.Priority.{Priority}
 use Rattle.wire.specs.declared.settings.Setting.{Setting}
@@ -11,7 +13,7 @@ use Rattle.wire.specs.declared.urgencies.Urgency.TheVariants.{U3}
 use Rattle.credit.specs.Credit.{MAX, held_by}
 use Rattle.credit.specs.Calls.{Accepts, raise, initial, raised}
 use Rattle.schedule.specs.Ranks.{Listed}
-use Rattle.model.specs.Calls.{Ask, frame, opening, offer, lease, settle, Answer, fault, answer_to}
+use Rattle.model.specs.Calls.{Ask, frame, opening, offer, lease, settle, Answer, answer_to}
 use Rattle.model.specs.States.{Stream, State, Moment}
 use Rattle.model.specs.declared.calls.Done.TheVariants.{Opened, Offered, Granted, Sent, Back}
 
@@ -28,8 +30,8 @@ IsIdle s id = (id ≢ 0) × (s.streams id ≡ None) × ((id % 2 ≡ 0) ⊎ (s.hi
 -- a pair of a SETTINGS frame is refused: an initial window (0x4) above MAX or that takes an open stream's window above it,
 -- a frame size (0x5) below 16,384 or above 16,777,215
 pub data RefusesPair (m : Moment) (p : Setting) : Fault → Type 0 where
-  bad_window : p.identifier ≡ 4 → (Accepts m.state.gate m.room (initial p.value) → ⊥) → RefusesPair m p (fault 5 3 0 p.place)
-  bad_size : p.identifier ≡ 5 → (p.value < 16384) ⊎ (16777215 < p.value) → RefusesPair m p (fault 4 1 0 p.place)
+  bad_window : p.identifier ≡ 4 → (Accepts m.state.gate m.room (initial p.value) → ⊥) → RefusesPair m p (fault cause.FlowControl 0 p.place)
+  bad_size : p.identifier ≡ 5 → (p.value < 16384) ⊎ (16777215 < p.value) → RefusesPair m p (fault cause.Protocol 0 p.place)
 
 pub record PassesPair (m : Moment) (p : Setting) : Type 0 where
   pub window : p.identifier ≡ 4 → Accepts m.state.gate m.room (initial p.value)
@@ -49,19 +51,19 @@ pub data AnswersFrame (m : Moment) : Told → Result Bool Fault → Type 0 where
   acknowledged : AnswersFrame m settings_ack (Ok true)
   settings_refused : {o : List ℕ} {at : ℕ} {f : Fault} → RefusesPairs m (settings_of o at) f → AnswersFrame m (settings o at) (Err f)
   settings_accepted : {o : List ℕ} {at : ℕ} → AllByRecursion (PassesPair m) (settings_of o at) → AnswersFrame m (settings o at) (Ok true)
-  window_idle : {id v : ℕ} → IsIdle m.state id → AnswersFrame m (window_update id v) (Err (fault 4 1 0 5))
+  window_idle : {id v : ℕ} → IsIdle m.state id → AnswersFrame m (window_update id v) (Err (fault cause.Protocol 0 5))
   window_closed : {id v : ℕ} → IsClosed m.state id → AnswersFrame m (window_update id v) (Ok false)
-  window_none_connection : AnswersFrame m (window_update 0 0) (Err (fault 4 1 0 9))
-  window_none_stream : {id : ℕ} → IsOpen m.state id → AnswersFrame m (window_update id 0) (Err (fault 6 1 id 9))
-  window_over_connection : {v : ℕ} → 0 < v → MAX < m.state.gate.connection + v → AnswersFrame m (window_update 0 v) (Err (fault 5 3 0 9))
-  window_over_stream : {id v : ℕ} → IsOpen m.state id → 0 < v → Overflows m.state id v → AnswersFrame m (window_update id v) (Err (fault 7 3 id 9))
+  window_none_connection : AnswersFrame m (window_update 0 0) (Err (fault cause.Protocol 0 9))
+  window_none_stream : {id : ℕ} → IsOpen m.state id → AnswersFrame m (window_update id 0) (Err (fault cause.NoIncrement id 9))
+  window_over_connection : {v : ℕ} → 0 < v → MAX < m.state.gate.connection + v → AnswersFrame m (window_update 0 v) (Err (fault cause.FlowControl 0 9))
+  window_over_stream : {id v : ℕ} → IsOpen m.state id → 0 < v → Overflows m.state id v → AnswersFrame m (window_update id v) (Err (fault cause.WindowOverflow id 9))
   window_accepted : {id v : ℕ} → 0 < v → Accepts m.state.gate m.room (raise id v) → AnswersFrame m (window_update id v) (Ok true)
-  reset_idle : {id code : ℕ} → (id ≡ 0) ⊎ IsIdle m.state id → AnswersFrame m (reset_stream id code) (Err (fault 4 1 0 5))
+  reset_idle : {id code : ℕ} → (id ≡ 0) ⊎ IsIdle m.state id → AnswersFrame m (reset_stream id code) (Err (fault cause.Protocol 0 5))
   reset_closed : {id code : ℕ} → IsClosed m.state id → AnswersFrame m (reset_stream id code) (Ok false)
   reset_accepted : {id code : ℕ} → IsOpen m.state id → AnswersFrame m (reset_stream id code) (Ok true)
-  target_even : {id at : ℕ} {value : List ℕ} → id % 2 ≡ 0 → AnswersFrame m (priority_update id value at) (Err (fault 4 1 0 9))
+  target_even : {id at : ℕ} {value : List ℕ} → id % 2 ≡ 0 → AnswersFrame m (priority_update id value at) (Err (fault cause.Protocol 0 9))
   target_not_open : {id at : ℕ} {value : List ℕ} → id % 2 ≡ 1 → m.state.streams id ≡ None → AnswersFrame m (priority_update id value at) (Ok false)
-  priority_unreadable : {id at : ℕ} {value : List ℕ} → id % 2 ≡ 1 → IsOpen m.state id → value_of value ≡ None → AnswersFrame m (priority_update id value at) (Err (fault 8 0 id 13))
+  priority_unreadable : {id at : ℕ} {value : List ℕ} → id % 2 ≡ 1 → IsOpen m.state id → value_of value ≡ None → AnswersFrame m (priority_update id value at) (Err (fault cause.UnreadablePriority id 13))
   priority_accepted : {id at : ℕ} {value : List ℕ} (p : Priority) → id % 2 ≡ 1 → IsOpen m.state id → value_of value ≡ Some p → AnswersFrame m (priority_update id value at) (Ok true)
   not_ours : {kind id : ℕ} → AnswersFrame m (other kind id) (Ok false)
 
@@ -84,14 +86,14 @@ read_or None = record { urgency = U3; incremental = false }
 read_or (Some p) = p
 
 pub data AnswersOpen (s : State) (id : ℕ) (value : List ℕ) : Answer → Type 0 where
-  bad_id : BadId s id → AnswersOpen s id value (Err (fault 9 0 id 0))
-  full : GoodId s id → Full s → AnswersOpen s id value (Err (fault 10 0 id 0))
+  bad_id : BadId s id → AnswersOpen s id value (Err (fault cause.BadId id 0))
+  full : GoodId s id → Full s → AnswersOpen s id value (Err (fault cause.Full id 0))
   opened : GoodId s id → (Full s → ⊥) → AnswersOpen s id value (Ok (Opened id (read_or (value_of value))))
 
 pub data AnswersOffer (s : State) (id n : ℕ) (end : Bool) : Answer → Type 0 where
-  not_open : s.streams id ≡ None → AnswersOffer s id n end (Err (fault 11 0 id 0))
-  was_ended : (x : Stream) → s.streams id ≡ Some x → x.ended ≡ true → AnswersOffer s id n end (Err (fault 12 0 id 0))
-  too_much : (x : Stream) → s.streams id ≡ Some x → x.ended ≡ false → MAX < x.queue + n → AnswersOffer s id n end (Err (fault 13 0 id 0))
+  not_open : s.streams id ≡ None → AnswersOffer s id n end (Err (fault cause.NotOpen id 0))
+  was_ended : (x : Stream) → s.streams id ≡ Some x → x.ended ≡ true → AnswersOffer s id n end (Err (fault cause.EndOffered id 0))
+  too_much : (x : Stream) → s.streams id ≡ Some x → x.ended ≡ false → MAX < x.queue + n → AnswersOffer s id n end (Err (fault cause.QueueOverflow id 0))
   offered : (x : Stream) → s.streams id ≡ Some x → x.ended ≡ false → x.queue + n ≤ MAX → AnswersOffer s id n end (Ok (Offered id n end))
 
 -- an open stream is ready if it has no open grant, and either octets wait and there is room, or its end was offered and none wait
@@ -117,8 +119,8 @@ abbrev pub grantable : Moment → ℕ → Stream → ℕ
 grantable m id x = min (min x.queue (m.room id)) m.state.frame_size
 
 pub data AnswersLease (m : Moment) : Answer → Type 0 where
-  used_up : 1000000 ≤ m.state.given → AnswersLease m (Err (fault 18 0 0 0))
-  none_ready : m.state.given < 1000000 → ((id : ℕ) → Ready m id → ⊥) → AnswersLease m (Err (fault 14 0 0 0))
+  used_up : 1000000 ≤ m.state.given → AnswersLease m (Err (fault cause.GrantsUsedUp 0 0))
+  none_ready : m.state.given < 1000000 → ((id : ℕ) → Ready m id → ⊥) → AnswersLease m (Err (fault cause.NoneReady 0 0))
   leased : (ids : List ℕ) (id : ℕ) (x : Stream) → m.state.given < 1000000 → ReadyIds m ids → m.picks ids ≡ Some id → m.state.streams id ≡ Some x → AnswersLease m (Ok (Granted (record { number = m.state.given + 1; id = id; octets = grantable m id x })))
 
 -- the stream whose open grant has a number
@@ -135,15 +137,15 @@ abbrev pub ends_with : Stream → ℕ → Bool
 ends_with x n = x.ended && x.queue - n == 0
 
 pub data AnswersSettle (s : State) (number : ℕ) (payload : List ℕ) : Answer → Type 0 where
-  not_granted : ((id : ℕ) (x : Stream) → Holds s number id x → ⊥) → AnswersSettle s number payload (Err (fault 15 0 0 0))
-  too_long : (id : ℕ) (x : Stream) → Holds s number id x → TooLong s id (length payload) → AnswersSettle s number payload (Err (fault 16 0 id 0))
-  no_space : (id : ℕ) (x : Stream) → Holds s number id x → (TooLong s id (length payload) → ⊥) → (0 < length payload) ⊎ (ends_with x (length payload) ≡ true) → s.sink.space < 9 + length payload → AnswersSettle s number payload (Err (fault 17 0 id 0))
+  not_granted : ((id : ℕ) (x : Stream) → Holds s number id x → ⊥) → AnswersSettle s number payload (Err (fault cause.NotGranted 0 0))
+  too_long : (id : ℕ) (x : Stream) → Holds s number id x → TooLong s id (length payload) → AnswersSettle s number payload (Err (fault cause.TooLong id 0))
+  no_space : (id : ℕ) (x : Stream) → Holds s number id x → (TooLong s id (length payload) → ⊥) → (0 < length payload) ⊎ (ends_with x (length payload) ≡ true) → s.sink.space < 9 + length payload → AnswersSettle s number payload (Err (fault cause.NoSpace id 0))
   sent : (id : ℕ) (x : Stream) → Holds s number id x → (TooLong s id (length payload) → ⊥) → (0 < length payload) ⊎ (ends_with x (length payload) ≡ true) → 9 + length payload ≤ s.sink.space → AnswersSettle s number payload (Ok (Sent number id (length payload) (ends_with x (length payload))))
   back : (id : ℕ) (x : Stream) → Holds s number id x → length payload ≡ 0 → ends_with x 0 ≡ false → AnswersSettle s number payload (Ok (Back number id))
 
 -- the answer to a call; a connection that has ended refuses each
 pub data Answers (m : Moment) : Ask → Answer → Type 0 where
-  dead : {a : Ask} → m.state.live ≡ false → Answers m a (Err (fault 1 0 0 0))
+  dead : {a : Ask} → m.state.live ≡ false → Answers m a (Err (fault cause.Ended 0 0))
   unread : {octets : List ℕ} {f : Fault} → m.state.live ≡ true → frame_of octets ≡ Err f → Answers m (frame octets) (Err f)
   frames : {octets : List ℕ} (t : Told) (r : Result Bool Fault) → m.state.live ≡ true → frame_of octets ≡ Ok t → AnswersFrame m t r → Answers m (frame octets) (answer_to t r)
   opens : {id : ℕ} {value : List ℕ} {r : Answer} → m.state.live ≡ true → AnswersOpen m.state id value r → Answers m (opening id value) r

@@ -5,8 +5,10 @@ use Rattle.std.specs.Map.{update}
 use Rattle.records.specs.Records.{seek}
 use Rattle.records.specs.Tables.{Is}
 use Rattle.records.proofs.Lookups.{record-found}
+use Rattle.wire.specs.Faults.{fault}
+use Rattle.wire.specs.declared.faults.Cause.TheVariants as cause
 use Rattle.wire.specs.declared.faults.Fault.{Fault}
-use Rattle.model.specs.Calls.{fault, offer}
+use Rattle.model.specs.Calls.{offer}
 use Rattle.model.specs.Happenings.{after, amended, queued, happened}
 use Rattle.model.specs.Rules.{AnswersOffer, was_ended, too_much, offered}
 use Rattle.model.specs.States.{Stream, State}
@@ -55,8 +57,8 @@ module _ (s : State) (xs : List Row) (streams : s.streams ≡ streams_in xs) (ma
       ended-or e = λ j. record { queue = x.queue + n; ended = sym (ap (λ b. b || end) e) j; grant = x.grant }
   offers-state n end (Err f) y h =
       ⊎_elim
-      (λ a. let told : f ≡ fault 12 0 id 0 = a.1 ∙ ap (λ i. fault 12 0 i 0) is.named in rw told (was_ended (plain x) found-stream a.0, unchanged y h.1))
-      (λ a. let told : f ≡ fault 13 0 id 0 = a.2 ∙ ap (λ i. fault 13 0 i 0) is.named in rw told (too_much (plain x) found-stream a.0 a.1, unchanged y h.1))
+      (λ a. let told : f ≡ fault cause.EndOffered id 0 = a.1 ∙ ap (λ i. fault cause.EndOffered i 0) is.named in rw told (was_ended (plain x) found-stream a.0, unchanged y h.1))
+      (λ a. let told : f ≡ fault cause.QueueOverflow id 0 = a.2 ∙ ap (λ i. fault cause.QueueOverflow i 0) is.named in rw told (too_much (plain x) found-stream a.0 a.1, unchanged y h.1))
       h.0
 
 -- an offer keeps the id

@@ -1,19 +1,17 @@
 -- What a frame leaves, and how a fault ends the connection.
-use Rattle.std.proofs.Common.{◌≡◌, ℕ, Bool, true, false, cond, ◌||◌, eqb, List, Ok, Err, Result, sym, refl, ap, ◌∙◌, subst, ⊎_elim}
-use Rattle.wire.specs.Frames.{Told, told_frame, settings, settings_ack, window_update, reset_stream, priority_update, other, frame_of}
+use Rattle.std.proofs.Common.{◌≡◌, ℕ, Bool, true, false, cond, eqb, List, Ok, Err, Result, sym, refl, ap, ◌∙◌, subst, ⊎_elim}
+use Rattle.wire.specs.Faults.{number_of}
+use Rattle.wire.specs.Frames.{Told, settings, settings_ack, window_update, reset_stream, priority_update, other, frame_of}
 use Rattle.wire.specs.declared.faults.Fault.{Fault}
-use Rattle.wire.specs.declared.frames.Frame.{Frame}
-use Rattle.wire.specs.declared.frames.Frame.TheVariants.{Settings, SettingsAck, WindowUpdate, ResetStream, PriorityUpdate, Other}
 use Rattle.wire.specs.declared.settings.Setting.{Setting}
-use Rattle.wire.proofs.PairSteps.{settings-end}
 use Rattle.model.specs.Calls.{frame}
-use Rattle.model.specs.Happenings.{Happening, nothing, ending, closing, skipping, after, frame_does, fault_does, happened}
+use Rattle.model.specs.Happenings.{Happening, nothing, ending, closing, skipping, after, frame_does, fault_does, happened, ends, closes}
 use Rattle.model.specs.Rules.{AnswersFrame, RefusesPairs, here, further, bad_window, bad_size, settings_refused, window_idle, window_none_connection, window_none_stream, window_over_connection, window_over_stream, reset_idle, target_even, priority_unreadable}
 use Rattle.model.specs.States.{State, Moment}
 use Rattle.model.specs.declared.calls.Done.{Done}
 use Rattle.model.specs.declared.calls.Done.TheVariants.{Frame as FrameDone, Opened, Offered, Granted, Sent, Back}
 use Rattle.model.proofs.Effects.{OfCodec}
-use Rattle.sender.specs.Answers.{handled, before_end, ends_with, Short}
+use Rattle.sender.specs.Answers.{handled, before_end, ends_with}
 
 -- a fault of the codec leaves all but the connection's life
 pub codec-stays : (s : State) (f : Fault) → OfCodec f → before_end s (fault_does f) ≡ s
@@ -52,15 +50,6 @@ pub accepted-handled : (s : State) (octets : List ℕ) (t : Told) (accepted : Bo
 accepted-handled s octets t true e = alike s t ∙ ap (λ u. before_end s (frame_does u)) (sym e)
 accepted-handled s octets t false e = refl
 
--- the pairs of a frame that was read end in time
-pub told-short : (f : Frame) (octets : List ℕ) → frame_of octets ≡ Ok (told_frame f) → Short f
-told-short (Settings pairs) octets e = settings-end octets _ _ e
-told-short SettingsAck octets e = tt
-told-short (WindowUpdate stream increment) octets e = tt
-told-short (ResetStream stream code) octets e = tt
-told-short (PriorityUpdate target value place) octets e = tt
-told-short (Other kind stream) octets e = tt
-
 -- the connection ends exactly with faults 3, 4 and 5
 frame-goes-on : (t : Result Told Fault) → (frame_does t).ended ≡ false
 frame-goes-on (Err f) = refl
@@ -79,9 +68,9 @@ ended_is octets (Ok (Granted g)) = refl
 ended_is octets (Ok (Sent grant id n end)) = refl
 ended_is octets (Ok (Back grant id)) = refl
 ended_is octets (Err f) =
-    elim (eqb f.number 3 || (eqb f.number 4 || eqb f.number 5)) as (λ b. (cond {A = Happening} b ending (cond (eqb f.number 6 || eqb f.number 7) (closing f.stream) (cond (eqb f.number 10) (skipping f.stream) nothing))).ended ≡ b) [
+    elim (ends f) as (λ b. (cond {A = Happening} b ending (cond (closes f) (closing f.stream) (cond (eqb (number_of f.cause) 10) (skipping f.stream) nothing))).ended ≡ b) [
       | true ↦ refl
-      | false ↦ elim (eqb f.number 6 || eqb f.number 7) as (λ b. (cond {A = Happening} b (closing f.stream) (cond (eqb f.number 10) (skipping f.stream) nothing)).ended ≡ false) [ true ↦ refl | false ↦ elim (eqb f.number 10) as (λ b. (cond {A = Happening} b (skipping f.stream) nothing).ended ≡ false) [ true ↦ refl | false ↦ refl ] ]
+      | false ↦ elim (closes f) as (λ b. (cond {A = Happening} b (closing f.stream) (cond (eqb (number_of f.cause) 10) (skipping f.stream) nothing)).ended ≡ false) [ true ↦ refl | false ↦ elim (eqb (number_of f.cause) 10) as (λ b. (cond {A = Happening} b (skipping f.stream) nothing).ended ≡ false) [ true ↦ refl | false ↦ refl ] ]
     ]
 
 -- a state but for the connection's life

@@ -1,9 +1,13 @@
 -- A new initial window, stream by stream and pair by pair.
-use Rattle.std.proofs.Common.{◌≡◌, ℕ, suc, ◌<◌, ◌≤◌, Bool, true, false, cond, eqb, List, [], ◌∷◌, map, length, get_or, ℤ, pos, ◌+ℤ◌, ◌-ℤ◌, ◌≤ℤ◌, is_some, IfSome, Some, None, Err, Decides, Option, sym, refl, ap, ◌∙◌, subst, ⊎_elim, arith, eq-eqb, ne_eqb}
+use Rattle.std.proofs.Common.{◌≡◌, ℕ, suc, ◌<◌, ◌≤◌, Bool, true, false, cond, eqb, List, [], ◌∷◌, map, length, get_or, ℤ, pos, ◌+ℤ◌, ◌-ℤ◌, ◌≤ℤ◌, is_some, IfSome, Some, None, Ok, Err, Decides, Option, sym, refl, ap, ◌∙◌, subst, ⊎_elim, arith, eq-eqb, ne_eqb}
 use Rattle.std.specs.List.{AllByRecursion}
 use Rattle.std.proofs.lemmas.Bool.{cases_eq, false≢true}
+use Rattle.std.proofs.lemmas.Bool.Decides.{nat_tests}
 use Rattle.credit.specs.Credit.{Credit, window_of}
 use Rattle.credit.specs.Calls.{Accepts, initial, shifted}
+use Rattle.wire.specs.Parameters.{Decodes, identifier_of}
+use Rattle.wire.specs.declared.parameters.Parameter.{Parameter}
+use Rattle.wire.specs.declared.parameters.Parameter.TheVariants.{InitialWindow, FrameSize}
 use Rattle.wire.specs.declared.settings.Setting.{Setting}
 use Rattle.model.specs.Happenings.{last_after, last_of}
 use Rattle.wire.specs.Frames.{Told}
@@ -71,3 +75,8 @@ pub pairs-stay : (m : Moment) (s : State) (t : Told) (ps : List Setting) (f : Fa
 pairs-stay m s t ps f (here (bad_window i n)) = refl
 pairs-stay m s t ps f (here (bad_size i n)) = refl
 pairs-stay m s t ps f (further {ps = rest} p r) = pairs-stay m s t rest f r
+
+-- a setting that is known has its own identifier
+pub decoded : (identifier : ℕ) (p : Parameter) → Decodes identifier (Ok p) → identifier ≡ identifier_of p
+decoded identifier InitialWindow e = grind (arith, nat_tests)
+decoded identifier FrameSize e = grind (arith, nat_tests)

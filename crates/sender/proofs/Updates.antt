@@ -1,9 +1,9 @@
 -- What WINDOW_UPDATE, RST_STREAM and PRIORITY_UPDATE find.
-use Rattle.std.proofs.Common.{◌≡◌, ℕ, true, false, eqb, List, map, pos, ◌≤ℤ◌, ◌<ℤ◌, is_some, Some, None, Ok, Err, Option, Result, refl, ap, ◌∙◌, arith, ne_eqb, MatchOption}
+use Rattle.std.proofs.Common.{◌≡◌, ℕ, true, false, eqb, List, map, pos, ◌≤ℤ◌, ◌<ℤ◌, is_some, Bor, Some, None, Ok, Err, Option, Result, refl, ap, ◌∙◌, arith, ne_eqb, MatchOption}
 use Rattle.std.specs.Option.{option_map, ok_or}
 use Rattle.std.proofs.lemmas.Int.{by_lt_z}
 use Rattle.records.specs.Records.{Absent}
-use Rattle.records.specs.Tables.{Is}
+use Rattle.records.specs.Tables.{Is, Found}
 use Rattle.records.proofs.Lookups.{record-absent, record-found}
 use Rattle.credit.specs.Credit.{Credit, Sound, MAX}
 use Rattle.credit.specs.Calls.{Accepts, raise, raised}
@@ -20,6 +20,11 @@ row_open xs id x is = ap (λ o. is_some (option_map plain o)) (record-found id_o
 
 pub row-none : (xs : List Row) (id : ℕ) → Absent (map id_of xs) id → streams_in xs id ≡ None
 row-none xs id none = ap (option_map plain) (record-absent id_of xs id none)
+
+-- a stream is open where its record was found
+pub found-open : (xs : List Row) (id : ℕ) (r : Option (Bor Row)) → Found id_of xs id r → is_some (streams_in xs id) ≡ is_some r
+found-open xs id None h = ap is_some (row-none xs id h)
+found-open xs id (Some x) h = row_open xs id x.now h
 
 -- stream 0 is never open
 pub open-nonzero : (s : State) (id : ℕ) → Tied s → Sound s.gate → IsOpen s id → id ≡ 0 → ⊥

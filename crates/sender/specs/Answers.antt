@@ -1,16 +1,14 @@
 -- What the parts of a call answer.
-use Rattle.std.specs.Prelude.{◌≡◌, ℕ, ◌+◌, ◌%◌, ◌<◌, ◌≤◌, Bool, true, false, cond, ◌||◌, ◌⊎◌, List, None, Ok, Err, Result, ◌==◌}
+use Rattle.std.specs.Prelude.{◌≡◌, ℕ, ◌+◌, ◌%◌, ◌<◌, ◌≤◌, Bool, true, false, cond, ◌⊎◌, List, None, Ok, Err, Result}
 use Rattle.std.specs.List.{AllByRecursion}
+use Rattle.wire.specs.Faults.{fault}
 use Rattle.wire.specs.Frames.{Told}
-use Rattle.wire.specs.Settings.{Ending}
-use Rattle.wire.specs.declared.frames.Frame.{Frame}
-use Rattle.wire.specs.declared.frames.Frame.TheVariants.{Settings, SettingsAck, WindowUpdate, ResetStream, PriorityUpdate, Other}
+use Rattle.wire.specs.declared.faults.Cause.TheVariants as cause
 use Rattle.wire.specs.declared.faults.Fault.{Fault}
 use Rattle.wire.specs.declared.settings.Setting.{Setting}
 use Rattle.credit.specs.Credit.{MAX}
-use Rattle.model.specs.Calls.{fault, frame}
-use Rattle.model.specs.Happenings.{Happening, after, frame_does, closing, happened}
-use Rattle.model.specs.Laws.{Meant}
+use Rattle.model.specs.Calls.{frame}
+use Rattle.model.specs.Happenings.{Happening, after, frame_does, closing, happened, ends, closes}
 use Rattle.model.specs.Rules.{IsOpen, IsClosed, Answers, AnswersFrame, PassesPair, RefusesPair, RefusesPairs}
 use Rattle.model.specs.States.{State, Moment, Tied}
 use Rattle.model.specs.declared.calls.Done.{Done}
@@ -20,11 +18,11 @@ use Rattle.sender.specs.declared.streams.Stream.{Stream}
 
 abbrev pub Living : Bool → Result (Unit {0}) Fault → Type 0
 Living live (Ok _) = live ≡ true
-Living live (Err f) = (live ≡ false) × (f ≡ fault 1 0 0 0)
+Living live (Err f) = (live ≡ false) × (f ≡ fault cause.Ended 0 0)
 
 abbrev pub Naming : ℕ → ℕ → Result (Unit {0}) Fault → Type 0
 Naming highest id (Ok _) = (id % 2 ≡ 1) × (id ≤ MAX) × (highest < id)
-Naming highest id (Err f) = ((id % 2 ≡ 0) ⊎ (MAX < id) ⊎ (id ≤ highest)) × (f ≡ fault 9 0 id 0)
+Naming highest id (Err f) = ((id % 2 ≡ 0) ⊎ (MAX < id) ⊎ (id ≤ highest)) × (f ≡ fault cause.BadId id 0)
 
 -- a stream with octets more in its queue, and perhaps their end
 abbrev pub offered_to : ℕ → Bool → Stream → Stream
@@ -32,7 +30,7 @@ offered_to n end x = record { id = x.id; queue = x.queue + n; ended = end; grant
 
 abbrev pub Offers : Stream → ℕ → Bool → Result Done Fault → Stream → Type 0
 Offers x n end (Ok d) y = (x.ended ≡ false) × (x.queue + n ≤ MAX) × (d ≡ Done.Offered x.id n end) × (y ≡ offered_to n end x)
-Offers x n end (Err f) y = (((x.ended ≡ true) × (f ≡ fault 12 0 x.id 0)) ⊎ ((x.ended ≡ false) × (MAX < x.queue + n) × (f ≡ fault 13 0 x.id 0))) × (y ≡ x)
+Offers x n end (Err f) y = (((x.ended ≡ true) × (f ≡ fault cause.EndOffered x.id 0)) ⊎ ((x.ended ≡ false) × (MAX < x.queue + n) × (f ≡ fault cause.QueueOverflow x.id 0))) × (y ≡ x)
 
 abbrev pub Stands : State → ℕ → Standing → Type 0
 Stands s id Open = IsOpen s id
@@ -43,10 +41,10 @@ Stands s id Idle = (s.streams id ≡ None) × ((id % 2 ≡ 0) ⊎ (s.highest < i
 -- and of the faults 6 and 7 have closed the stream
 abbrev pub handled : State → Told → Result Bool Fault → State
 handled s t (Ok accepted) = cond accepted (after s (frame_does (Ok t))) s
-handled s t (Err f) = cond (f.number == 6 || f.number == 7) (after s (closing f.stream)) s
+handled s t (Err f) = cond (closes f) (after s (closing f.stream)) s
 
 abbrev pub Handles : Moment → Told → Result Bool Fault → Moment → Type 0
-Handles e t r x = Tied e.state → Meant e → (AnswersFrame e t r) × (x.state ≡ handled e.state t r)
+Handles e t r x = Tied e.state → AnswersFrame e t r × (x.state ≡ handled e.state t r)
 
 -- a pair passes or is refused, and so does each of several, the first fault deciding
 abbrev pub TestsPair : Moment → Setting → Result (Unit {0}) Fault → Type 0
@@ -57,23 +55,14 @@ abbrev pub TestsPairs : Moment → List Setting → Result (Unit {0}) Fault → 
 TestsPairs m ps (Ok _) = AllByRecursion (PassesPair m) ps
 TestsPairs m ps (Err f) = RefusesPairs m ps f
 
--- the pairs of a frame end at a place of 32 bits
-abbrev pub Short : Frame → Type 0
-Short (Settings pairs) = Ending pairs
-Short SettingsAck = Unit {0}
-Short (WindowUpdate stream increment) = Unit {0}
-Short (ResetStream stream code) = Unit {0}
-Short (PriorityUpdate target value place) = Unit {0}
-Short (Other kind stream) = Unit {0}
-
 -- faults 3, 4 and 5 end the connection
 abbrev pub ends_with : Result Done Fault → Bool
 ends_with (Ok d) = false
-ends_with (Err f) = f.number == 3 || (f.number == 4 || f.number == 5)
+ends_with (Err f) = ends f
 
 -- what happened but for the end of the connection
 abbrev pub before_end : State → Happening → State
 before_end s e = record { gate = (after s e).gate; ranks = (after s e).ranks; sink = (after s e).sink; streams = (after s e).streams; many = (after s e).many; live = s.live; frame_size = (after s e).frame_size; highest = (after s e).highest; given = (after s e).given }
 
 abbrev pub Receives : Moment → List ℕ → Result Done Fault → Moment → Type 0
-Receives e octets r x = e.state.live ≡ true → Tied e.state → Meant e → (Answers e (frame octets) r) × (x.state ≡ before_end e.state (happened (frame octets) r))
+Receives e octets r x = e.state.live ≡ true → Tied e.state → Answers e (frame octets) r × (x.state ≡ before_end e.state (happened (frame octets) r))

@@ -2,10 +2,9 @@
 ghost use Rattle.std.specs.Prelude.{ℕ};
 ghost use Rattle.sender.specs.Answers.{Offers};
 
-use crate::connections::asking::refusal;
 use model::Done;
 use records::Record;
-use wire::Fault;
+use wire::{Cause, Fault};
 
 // A stream: its id, the octets that wait to be sent, whether their end was offered, and the number of its open grant.
 #[derive(Clone, Copy)]
@@ -25,16 +24,16 @@ impl Record for Stream {
 }
 
 impl Stream {
-    // Queues octets, and perhaps their end; refused with 12 once the end was offered, with 13 where too many would wait.
+    // Queues octets, and perhaps their end; refused once the end was offered, and where too many would wait.
     pub(crate) fn offer(&mut self, octets: u32, end: bool) -> Result<Done, Fault>
         ensures { Offers self.old octets end result self.new }
     {
         if self.ended {
-            return Err(refusal(12, 0, self.id, 0));
+            return Err(Fault::new(Cause::EndOffered, self.id, 0));
         }
-        let queue = self.queue as u64 + octets as u64;
+        let queue = u64::from(self.queue) + u64::from(octets);
         if queue > 2_147_483_647 {
-            return Err(refusal(13, 0, self.id, 0));
+            return Err(Fault::new(Cause::QueueOverflow, self.id, 0));
         }
         self.queue = queue as u32;
         self.ended = end;

@@ -8,23 +8,19 @@ ghost use Rattle.model.specs.Rules.{read_or};
 ghost use Rattle.sender.specs.Connections.{moment_of};
 
 use crate::connections::Connection;
-use crate::connections::asking::refusal;
 use credit::Gate;
 use model::Done;
 use schedule::Policy;
-use wire::{Fault, Priority, Urgency, read_priority};
+use wire::{Cause, Fault, Priority, Urgency, read_priority};
 
 // The priority that a stream opens with: an unreadable value gives urgency 3, not incremental.
 fn first_priority(value: &[u8]) -> Priority
     ensures { result ≡ read_or (value_of value.now) }
 {
-    match read_priority(value) {
-        Some(priority) => priority,
-        None => Priority {
-            urgency: Urgency::U3,
-            incremental: false,
-        },
-    }
+    read_priority(value).unwrap_or(Priority {
+        urgency: Urgency::U3,
+        incremental: false,
+    })
 }
 
 impl<G: Gate, P: Policy> Connection<G, P> {
@@ -35,7 +31,7 @@ impl<G: Gate, P: Policy> Connection<G, P> {
         self.openable(id)?;
         if self.full() {
             self.highest = id;
-            return Err(refusal(10, 0, id, 0));
+            return Err(Fault::new(Cause::Full, id, 0));
         }
         let priority = first_priority(value);
         self.begin(id, priority);
@@ -53,10 +49,10 @@ impl<G: Gate, P: Policy> Connection<G, P> {
         ensures { (k : Meaning) → Steps (moment_of G.Gate P.Policy self.old k) (offer id octets end) result (moment_of G.Gate P.Policy self.new k) }
     {
         self.alive()?;
-        match self.streams.get_mut(id) {
-            None => Err(refusal(11, 0, id, 0)),
-            Some(stream) => stream.offer(octets, end),
-        }
+        let Some(stream) = self.streams.get_mut(id) else {
+            return Err(Fault::new(Cause::NotOpen, id, 0));
+        };
+        stream.offer(octets, end)
     }
 
     // Queues octets of a stream, and perhaps their end.

@@ -35,20 +35,14 @@ impl<G: Gate, P: Policy> Connection<G, P> {
     fn window(&self, id: u32) -> i32
         ensures { result ≡ window_read ((G.Gate.meaning self.now.gate).stream id) }
     {
-        match self.gate.window(id) {
-            Some(window) => window,
-            None => 0,
-        }
+        self.gate.window(id).unwrap_or(0)
     }
 
     // The octets of a stream's open grant; 0 where it has none.
     fn held(&self, id: u32) -> u32
         ensures { result ≡ held_by ((G.Gate.meaning self.now.gate).stream id) }
     {
-        match self.gate.held(id) {
-            Some(octets) => octets,
-            None => 0,
-        }
+        self.gate.held(id).unwrap_or(0)
     }
 
     // What a stream has; 0 throughout where it is not open.
@@ -60,7 +54,7 @@ impl<G: Gate, P: Policy> Connection<G, P> {
         StreamReading {
             window,
             held,
-            left: window as i64 - held as i64,
+            left: i64::from(window) - i64::from(held),
             room: self.gate.room(id),
         }
     }

@@ -4,25 +4,24 @@ ghost use Rattle.sink.specs.Meaning.{Meaning};
 ghost use Rattle.wire.specs.Frames.{told_frame};
 ghost use Rattle.model.specs.Calls.{frame, type_of, stream_of};
 ghost use Rattle.model.specs.Laws.{Steps, GoesOn};
-ghost use Rattle.sender.specs.Answers.{Handles, Receives, Short, ends_with};
+ghost use Rattle.sender.specs.Answers.{Handles, Receives, ends_with};
 ghost use Rattle.sender.specs.Connections.{moment_of};
 
 use crate::connections::Connection;
 use credit::Gate;
 use model::Done;
 use schedule::Policy;
-use wire::{Fault, Frame, read_frame};
+use wire::{Cause, Fault, Frame, Kind, read_frame};
 
 // A frame's type.
 fn kind_of(frame: Frame) -> u8
     ensures { result ≡ type_of (told_frame frame.entry) }
 {
     match frame {
-        Frame::Settings(_) => 0x4,
-        Frame::SettingsAck => 0x4,
-        Frame::WindowUpdate { .. } => 0x8,
-        Frame::ResetStream { .. } => 0x3,
-        Frame::PriorityUpdate { .. } => 0x10,
+        Frame::Settings(_) | Frame::SettingsAck => Kind::Settings.octet(),
+        Frame::WindowUpdate { .. } => Kind::WindowUpdate.octet(),
+        Frame::ResetStream { .. } => Kind::ResetStream.octet(),
+        Frame::PriorityUpdate { .. } => Kind::PriorityUpdate.octet(),
         Frame::Other { kind, .. } => kind,
     }
 }
@@ -32,11 +31,9 @@ fn stream_of(frame: Frame) -> u32
     ensures { result ≡ stream_of (told_frame frame.entry) }
 {
     match frame {
-        Frame::Settings(_) => 0,
-        Frame::SettingsAck => 0,
+        Frame::Settings(_) | Frame::SettingsAck | Frame::PriorityUpdate { .. } => 0,
         Frame::WindowUpdate { stream, .. } => stream,
         Frame::ResetStream { stream, .. } => stream,
-        Frame::PriorityUpdate { .. } => 0,
         Frame::Other { stream, .. } => stream,
     }
 }
@@ -47,14 +44,16 @@ fn ends_connection(answer: &Result<Done, Fault>) -> bool
 {
     match answer {
         Ok(_) => false,
-        Err(fault) => fault.number == 3 || fault.number == 4 || fault.number == 5,
+        Err(fault) => matches!(
+            fault.cause,
+            Cause::FrameSize | Cause::Protocol | Cause::FlowControl
+        ),
     }
 }
 
 impl<G: Gate, P: Policy> Connection<G, P> {
     // Accepts a frame that was read, passes it over, or refuses it.
     fn handled(&mut self, frame: Frame) -> Result<bool, Fault>
-        requires { Short frame }
         ensures { (k : Meaning) → Handles (moment_of G.Gate P.Policy self.old k) (told_frame frame.entry) result (moment_of G.Gate P.Policy self.new k) }
     {
         match frame {

@@ -3,7 +3,8 @@ ghost use Rattle.std.specs.Prelude.{◌≡◌, ℕ, ◌<◌, pos, ◌+ℤ◌, �
 ghost use Rattle.sink.specs.Meaning.{Meaning};
 ghost use Rattle.credit.specs.Calls.{Accepts, initial, shifted};
 ghost use Rattle.wire.specs.Frames.{settings};
-ghost use Rattle.wire.specs.Settings.{Ending, to_come};
+ghost use Rattle.wire.specs.Parameters.{identifier_of};
+ghost use Rattle.wire.specs.Settings.{to_come};
 ghost use Rattle.model.specs.Happenings.{after, renewing, last_of};
 ghost use Rattle.model.specs.Laws.{Meant};
 ghost use Rattle.model.specs.States.{Tied};
@@ -11,15 +12,9 @@ ghost use Rattle.sender.specs.Answers.{Handles, TestsPair, TestsPairs};
 ghost use Rattle.sender.specs.Connections.{moment_of, state_of, moment_of};
 
 use crate::connections::Connection;
-use crate::connections::asking::refusal;
 use credit::Gate;
 use schedule::Policy;
-use wire::{Fault, Pairs, Setting};
-
-// SETTINGS_INITIAL_WINDOW_SIZE and SETTINGS_MAX_FRAME_SIZE.
-const INITIAL_WINDOW: u16 = 0x4;
-
-const FRAME_SIZE: u16 = 0x5;
+use wire::{Cause, Fault, Pairs, Parameter, Setting};
 
 // The value of a pair, if it has the identifier, else the latest so far.
 fn newer(latest: Option<u32>, pair: Setting, identifier: u16) -> Option<u32>
@@ -32,11 +27,11 @@ fn newer(latest: Option<u32>, pair: Setting, identifier: u16) -> Option<u32>
     }
 }
 
-// The value of the last pair with an identifier.
-fn last_value(pairs: Pairs, identifier: u16) -> Option<u32>
-    requires { Ending pairs }
-    ensures { result ≡ last_of identifier (to_come pairs.entry) }
+// The value of the last pair that tells a setting.
+fn last_value(pairs: Pairs, setting: Parameter) -> Option<u32>
+    ensures { result ≡ last_of (identifier_of setting) (to_come pairs.entry) }
 {
+    let identifier = setting.identifier();
     let mut latest = None;
     for pair in pairs {
         latest = newer(latest, pair, identifier);
@@ -85,25 +80,26 @@ impl<G: Gate, P: Policy> Connection<G, P> {
     fn test_pair(&self, pair: Setting) -> Result<(), Fault>
         ensures { (k : Meaning) → Tied (state_of G.Gate P.Policy self.now k) → TestsPair (moment_of G.Gate P.Policy self.now k) pair result }
     {
-        if pair.identifier == INITIAL_WINDOW {
-            if !self.initial_fits(pair.value) {
-                return Err(refusal(5, 3, 0, pair.place));
+        match Parameter::try_from(pair.identifier) {
+            Ok(Parameter::InitialWindow) => {
+                if self.initial_fits(pair.value) {
+                    Ok(())
+                } else {
+                    Err(Fault::new(Cause::FlowControl, 0, pair.place))
+                }
             }
-            return Ok(());
+            Ok(Parameter::FrameSize) => {
+                if (16_384..=16_777_215).contains(&pair.value) {
+                    Ok(())
+                } else {
+                    Err(Fault::new(Cause::Protocol, 0, pair.place))
+                }
+            }
+            Err(_) => Ok(()),
         }
-        if pair.identifier == FRAME_SIZE {
-            if pair.value < 16_384 {
-                return Err(refusal(4, 1, 0, pair.place));
-            }
-            if pair.value > 16_777_215 {
-                return Err(refusal(4, 1, 0, pair.place));
-            }
-        }
-        Ok(())
     }
 
     fn test_pairs(&self, pairs: Pairs) -> Result<(), Fault>
-        requires { Ending pairs }
         ensures { (k : Meaning) → Tied (state_of G.Gate P.Policy self.now k) → TestsPairs (moment_of G.Gate P.Policy self.now k) (to_come pairs.entry) result }
     {
         for pair in pairs {
@@ -125,12 +121,11 @@ impl<G: Gate, P: Policy> Connection<G, P> {
     }
 
     pub(crate) fn settings(&mut self, pairs: Pairs) -> Result<bool, Fault>
-        requires { Ending pairs }
         ensures { (k : Meaning) → Handles (moment_of G.Gate P.Policy self.old k) (settings pairs.entry.octets.now pairs.entry.place) result (moment_of G.Gate P.Policy self.new k) }
     {
         self.test_pairs(pairs)?;
-        let window = last_value(pairs, INITIAL_WINDOW);
-        let size = last_value(pairs, FRAME_SIZE);
+        let window = last_value(pairs, Parameter::InitialWindow);
+        let size = last_value(pairs, Parameter::FrameSize);
         self.renew(window, size);
         Ok(true)
     }

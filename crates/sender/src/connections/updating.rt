@@ -7,13 +7,12 @@ ghost use Rattle.sender.specs.Answers.{Handles, Stands};
 ghost use Rattle.sender.specs.Connections.{moment_of, state_of};
 
 use crate::connections::Connection;
-use crate::connections::asking::refusal;
 use credit::Gate;
 use schedule::Policy;
-use wire::{Fault, read_priority_update};
+use wire::{Cause, Fault, read_priority_update};
 
 // What an id is: open, closed, or idle.
-#[derive(Clone, Copy)]
+#[derive(Clone, Copy, PartialEq, Eq, Debug)]
 pub enum Standing {
     Open,
     Closed,
@@ -25,13 +24,10 @@ impl<G: Gate, P: Policy> Connection<G, P> {
     pub(crate) fn standing(&self, id: u32) -> Standing
         ensures { (k : Meaning) → Stands (state_of G.Gate P.Policy self.now k) id result }
     {
-        if let Some(_) = self.streams.get(id) {
+        if self.streams.get(id).is_some() {
             return Standing::Open;
         }
-        if id % 2 == 0 {
-            return Standing::Idle;
-        }
-        if id > self.highest {
+        if id % 2 == 0 || id > self.highest {
             return Standing::Idle;
         }
         Standing::Closed
@@ -42,10 +38,10 @@ impl<G: Gate, P: Policy> Connection<G, P> {
         ensures { (k : Meaning) → Handles (moment_of G.Gate P.Policy self.old k) (window_update 0 increment) result (moment_of G.Gate P.Policy self.new k) }
     {
         if increment == 0 {
-            return Err(refusal(4, 1, 0, 9));
+            return Err(Fault::new(Cause::Protocol, 0, 9));
         }
         if !self.gate.raise(0, increment) {
-            return Err(refusal(5, 3, 0, 9));
+            return Err(Fault::new(Cause::FlowControl, 0, 9));
         }
         Ok(true)
     }
@@ -56,11 +52,11 @@ impl<G: Gate, P: Policy> Connection<G, P> {
     {
         if increment == 0 {
             self.close(id);
-            return Err(refusal(6, 1, id, 9));
+            return Err(Fault::new(Cause::NoIncrement, id, 9));
         }
         if !self.gate.raise(id, increment) {
             self.close(id);
-            return Err(refusal(7, 3, id, 9));
+            return Err(Fault::new(Cause::WindowOverflow, id, 9));
         }
         Ok(true)
     }
@@ -72,7 +68,7 @@ impl<G: Gate, P: Policy> Connection<G, P> {
             return self.raise_connection(increment);
         }
         match self.standing(id) {
-            Standing::Idle => Err(refusal(4, 1, 0, 5)),
+            Standing::Idle => Err(Fault::new(Cause::Protocol, 0, 5)),
             Standing::Closed => Ok(false),
             Standing::Open => self.raise_stream(id, increment),
         }
@@ -82,10 +78,10 @@ impl<G: Gate, P: Policy> Connection<G, P> {
         ensures { (k : Meaning) → Handles (moment_of G.Gate P.Policy self.old k) (reset_stream id code) result (moment_of G.Gate P.Policy self.new k) }
     {
         if id == 0 {
-            return Err(refusal(4, 1, 0, 5));
+            return Err(Fault::new(Cause::Protocol, 0, 5));
         }
         match self.standing(id) {
-            Standing::Idle => Err(refusal(4, 1, 0, 5)),
+            Standing::Idle => Err(Fault::new(Cause::Protocol, 0, 5)),
             Standing::Closed => Ok(false),
             Standing::Open => {
                 self.close(id);
@@ -103,13 +99,13 @@ impl<G: Gate, P: Policy> Connection<G, P> {
         ensures { (k : Meaning) → Handles (moment_of G.Gate P.Policy self.old k) (priority_update target value.now place) result (moment_of G.Gate P.Policy self.new k) }
     {
         if target % 2 == 0 {
-            return Err(refusal(4, 1, 0, 9));
+            return Err(Fault::new(Cause::Protocol, 0, 9));
         }
-        if let Some(_) = self.streams.get(target) {
-            let priority = read_priority_update(target, value)?;
-            let _ = self.policy.alter(target, priority);
-            return Ok(true);
+        if self.streams.get(target).is_none() {
+            return Ok(false);
         }
-        Ok(false)
+        let priority = read_priority_update(target, value)?;
+        let _ = self.policy.alter(target, priority);
+        Ok(true)
     }
 }

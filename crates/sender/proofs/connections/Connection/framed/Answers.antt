@@ -11,14 +11,14 @@ pub returns-in_err-alive : goal.returns-in_err-alive
 returns-in_err-alive g c =
     let p = err_from_is_err_and c.from_residual.result c.from_residual.ensures.1 in
     let a = c.in_err-alive.ensures in
-    rw (p.1, p.2, a.1) (λ k tied meant. (dead a.0, refl))
+    rw (p.1, p.2, a.1) (λ k tied. (dead a.0, refl))
 
 pub returns-then-ends_connection : goal.returns-then-ends_connection
-returns-then-ends_connection g c k tied meant =
-    let h = c.received-answer.ensures k c.in_ok-alive.ensures tied meant in
+returns-then-ends_connection g c k tied =
+    let h = c.received-answer.ensures k c.in_ok-alive.ensures tied in
     (h.0, final-state (state_of g.G.Gate g.P.Policy c.args.self.now k) (state_of g.G.Gate g.P.Policy c.received-answer.new.self k) (happened (frame c.args.octets.now) c.received-answer.result) _ (ended_is c.args.octets.now c.received-answer.result ∙ sym c.ends_connection.ensures ∙ c.if-ends_connection.true) h.1)
 
 pub returns-else-ends_connection : goal.returns-else-ends_connection
-returns-else-ends_connection g c k tied meant =
-    let h = c.received-answer.ensures k c.in_ok-alive.ensures tied meant in
+returns-else-ends_connection g c k tied =
+    let h = c.received-answer.ensures k c.in_ok-alive.ensures tied in
     (h.0, final-state (state_of g.G.Gate g.P.Policy c.args.self.now k) (state_of g.G.Gate g.P.Policy c.received-answer.new.self k) (happened (frame c.args.octets.now) c.received-answer.result) _ (ended_is c.args.octets.now c.received-answer.result ∙ sym c.ends_connection.ensures ∙ c.if-ends_connection.false) h.1)

@@ -14,20 +14,20 @@ pub returns-in_err-alive : goal.returns-in_err-alive
 returns-in_err-alive g c =
     let p = err_from_is_err_and c.from_residual.result c.from_residual.ensures.1 in
     let a = c.in_err-alive.ensures in
-    rw (p.1, p.2, a.1) (λ k tied meant. (dead a.0, refl))
+    rw (p.1, p.2, a.1) (λ k tied. (dead a.0, refl))
 
-pub returns-in-None : goal.returns-in-None
-returns-in-None g c = rw c.refusal.ensures (λ k tied meant. (offers c.in_ok-alive.ensures (not_open (ap (option_map plain) (record-absent id_of (vec_items c.args.self.now.streams.rows) c.args.id c.in-None.ensures.finds))), refl))
+pub returns-in_default : goal.returns-in_default
+returns-in_default g c = rw c.new.ensures (λ k tied. (offers c.in_ok-alive.ensures (not_open (ap (option_map plain) (record-absent id_of (vec_items c.args.self.now.streams.rows) c.args.id c.in_default.ensures.finds))), refl))
 
-pub invariant_of-self-in-Some : goal.invariant_of-self-in-Some
-invariant_of-self-in-Some g c =
+pub invariant_of-self-2 : goal.invariant_of-self-2
+invariant_of-self-2 g c =
     let s = c.args.self.now in
     let xs = vec_items s.streams.rows in
     let is = c.in-Some.ensures.finds in
     record { few = (omega (arith, length-set xs (seek (map id_of xs) c.args.id) c.offer.new.self, s.few.0), s.few.1); order = ordered-set 0 s.highest c.args.id xs c.offer.new.self (offers-named c.in-Some.stream.now c.args.octets c.args.end c.offer.result c.offer.new.self c.offer.ensures ∙ is.named) is.there s.order }
 
-pub returns-in-Some : goal.returns-in-Some
-returns-in-Some g c k tied meant =
+pub returns : goal.returns
+returns g c k tied =
     let s = c.args.self.now in
     let b = offers-state (state_of g.G.Gate g.P.Policy s k) (vec_items s.streams.rows) refl refl c.args.id c.in-Some.stream.now c.in-Some.ensures.finds c.args.octets c.args.end c.offer.result c.offer.new.self c.offer.ensures in
     (offers c.in_ok-alive.ensures b.0, b.1)

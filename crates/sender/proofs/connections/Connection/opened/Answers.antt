@@ -10,13 +10,13 @@ pub returns-in_err-alive : goal.returns-in_err-alive
 returns-in_err-alive g c =
     let p = err_from_is_err_and c.from_residual.result c.from_residual.ensures.1 in
     let a = c.in_err-alive.ensures in
-    rw (p.1, p.2, a.1) (λ k tied meant. (dead a.0, refl))
+    rw (p.1, p.2, a.1) (λ k tied. (dead a.0, refl))
 
 pub returns-in_err-openable : goal.returns-in_err-openable
 returns-in_err-openable g c =
     let p = err_from_is_err_and c.from_residual-in_err-openable.result c.from_residual-in_err-openable.ensures.1 in
     let a = c.in_err-openable.ensures in
-    rw (p.1, p.2, a.1) (λ k tied meant. (opens c.in_ok-alive.ensures (bad_id a.0), refl))
+    rw (p.1, p.2, a.1) (λ k tied. (opens c.in_ok-alive.ensures (bad_id a.0), refl))
 
 pub invariant_of-self : goal.invariant_of-self
 invariant_of-self g c =
@@ -27,13 +27,13 @@ invariant_of-self g c =
 pub returns-then-full : goal.returns-then-full
 returns-then-full g c =
     let a = c.in_ok-openable.ensures in
-    rw c.refusal.ensures (λ k tied meant. (opens c.in_ok-alive.ensures (full (record { odd = a.0; fits = a.1; above = a.2 }) ((c.full.ensures k).0 c.if-full.true)), refl))
+    rw c.new.ensures (λ k tied. (opens c.in_ok-alive.ensures (full (record { odd = a.0; fits = a.1; above = a.2 }) ((c.full.ensures k).0 c.if-full.true)), refl))
 
 pub begin-requires : goal.begin-requires
 begin-requires g c = c.in_ok-openable.ensures.2
 
 pub returns : goal.returns
-returns g c k tied meant =
+returns g c k tied =
     let a = c.in_ok-openable.ensures in
     let unfull : Full (state_of g.G.Gate g.P.Policy c.args.self.now k) → ⊥ = λ h. true≢false (sym ((c.full.ensures k).1 h) ∙ c.if-full.false) in
     let b = c.begin.ensures k tied unfull in

@@ -14,12 +14,12 @@ pub returns-in_err-test_pairs : goal.returns-in_err-test_pairs
 returns-in_err-test_pairs g c =
     let p = err_from_is_err_and c.from_residual.result c.from_residual.ensures.1 in
     rw (p.1, p.2)
-    (λ k tied meant.
+    (λ k tied.
     let refused = c.in_err-test_pairs.ensures k tied in
     (settings_refused refused, sym (pairs-stay _ _ (settings c.args.pairs.octets.now c.args.pairs.place) _ _ refused)))
 
 pub returns : goal.returns
-returns g c k tied meant =
+returns g c k tied =
     let s = c.args.self.now in
     let state : State = state_of g.G.Gate g.P.Policy s k in
     let m : Moment = moment_of g.G.Gate g.P.Policy s k in

@@ -6,10 +6,10 @@ pub returns-then-id-eq0 : goal.returns-then-id-eq0
 returns-then-id-eq0 g c = rw c.if-id-eq0.true c.raise_connection.ensures
 
 pub returns-in-Idle : goal.returns-in-Idle
-returns-in-Idle g c = rw c.refusal.ensures (λ k tied meant. (window_idle (c.if-id-eq0.false, (c.in-Idle.ensures k).0, (c.in-Idle.ensures k).1), refl))
+returns-in-Idle g c = rw c.new.ensures (λ k tied. (window_idle (c.if-id-eq0.false, (c.in-Idle.ensures k).0, (c.in-Idle.ensures k).1), refl))
 
 pub returns-in-Closed : goal.returns-in-Closed
-returns-in-Closed g c k tied meant = (window_closed (c.in-Closed.ensures k), refl)
+returns-in-Closed g c k tied = (window_closed (c.in-Closed.ensures k), refl)
 
 pub returns-in-Open : goal.returns-in-Open
 returns-in-Open g c k = c.raise_stream.ensures k (c.in-Open.ensures k)

@@ -1,8 +1,7 @@
 use Rattle.std.proofs.Common.{◌≡◌, None}
-use Rattle.wire.specs.Settings.{Ending, to_come}
+use Rattle.wire.specs.Settings.{to_come}
 use Rattle.model.specs.Happenings.{last_after}
 use Rattle.sender.proofs.connections.settings.last_value.Given as goal
 
 abbrev pub invariant-loop-pair : goal.invariant-loop-pair
-invariant-loop-pair l =
-    (last_after l.identifier l.latest (to_come l.pair-iterator) ≡ last_after l.identifier None (to_come l.initial.pair-iterator)) × Ending l.pair-iterator
+invariant-loop-pair l = last_after l.identifier l.latest (to_come l.pair-iterator) ≡ last_after l.identifier None (to_come l.initial.pair-iterator)
