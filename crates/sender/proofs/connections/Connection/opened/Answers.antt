@@ -29,9 +29,6 @@ returns-then-full g c =
     let a = c.in_ok-openable.ensures in
     rw c.new.ensures (λ k tied. (opens c.in_ok-alive.ensures (full (record { odd = a.0; fits = a.1; above = a.2 }) ((c.full.ensures k).0 c.if-full.true)), refl))
 
-pub begin-requires : goal.begin-requires
-begin-requires g c = c.in_ok-openable.ensures.2
-
 pub returns : goal.returns
 returns g c k tied =
     let a = c.in_ok-openable.ensures in

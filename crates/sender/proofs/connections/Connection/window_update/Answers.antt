@@ -2,9 +2,6 @@ use Rattle.std.proofs.Common.{refl}
 use Rattle.model.specs.Rules.{window_idle, window_closed}
 use Rattle.sender.proofs.connections.Connection.window_update.Goals as goal
 
-pub returns-then-id-eq0 : goal.returns-then-id-eq0
-returns-then-id-eq0 g c = rw c.if-id-eq0.true c.raise_connection.ensures
-
 pub returns-in-Idle : goal.returns-in-Idle
 returns-in-Idle g c = rw c.new.ensures (λ k tied. (window_idle (c.if-id-eq0.false, (c.in-Idle.ensures k).0, (c.in-Idle.ensures k).1), refl))
 
