@@ -15,10 +15,5 @@ pub trait Record {
 pub fn find<R: Record>(records: &[R], id: u32) -> Option<usize>
     ensures { Finds (map R.Record.key records.now) id result }
 {
-    for (i, record) in records.iter().enumerate() {
-        if record.id() == id {
-            return Some(i);
-        }
-    }
-    None
+    records.iter().position(|record| record.id() == id)
 }

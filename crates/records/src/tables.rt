@@ -46,10 +46,8 @@ impl<R: Record + Drop> Table<R> {
     pub fn get(&self, id: u32) -> Option<&R>
         ensures { Found R.Record.key self.now.rows.items id result }
     {
-        match self.place(id) {
-            Some(i) => Some(&self.rows[i]),
-            None => None,
-        }
+        let i = self.place(id)?;
+        Some(&self.rows[i])
     }
 
     // Lends the record with the id, to be changed; the table follows it.
@@ -57,10 +55,8 @@ impl<R: Record + Drop> Table<R> {
         ensures* follows { sem 𝓛 (follows_if (the_row R.row) R.row self.entry.ghost_name (name_of result) (λ w. record { rows = with_item self.old.rows (seek (map R.Record.key self.old.rows.items) id) w }) self.old) }
         ensures finds { FoundMut R.Record.key self.old.rows.items id result }
     {
-        match self.place(id) {
-            Some(i) => self.rows.get_mut(i),
-            None => None,
-        }
+        let i = self.place(id)?;
+        self.rows.get_mut(i)
     }
 
     // Adds a record behind the others; false where the table is full.

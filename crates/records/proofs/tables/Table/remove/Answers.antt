@@ -1,6 +1,6 @@
-use Rattle.std.proofs.Common.{vec_items, sym, refl, ◌∙◌, subst, arith, rules}
+use Rattle.std.proofs.Common.{vec_items, sym, refl, ◌∙◌, subst, rules}
 use Rattle.records.specs.Tables.{Taken}
-use Rattle.records.proofs.Rows.{found_within, found-is, without-none, without-found}
+use Rattle.records.proofs.Rows.{found-is, without-none, without-found}
 use Rattle.records.proofs.tables.Table.remove.Goals as goal
 
 pub returns-in_err-i : goal.returns-in_err-i
@@ -11,9 +11,6 @@ returns-in_err-i g c =
       rows = sym (without-none g.R.Record.key rows c.args.id c.in_err-i.ensures);
       memory = refl;
     }
-
-pub remove-requires : goal.remove-requires
-remove-requires g c = omega (arith, found_within g.R.Record.key (vec_items c.args.self.now.rows) c.args.id c.in_ok-i.i c.in_ok-i.ensures, c.args.self.now.rows.ok.0)
 
 pub returns : goal.returns
 returns g c =
