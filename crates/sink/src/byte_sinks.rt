@@ -17,13 +17,13 @@ const LONGEST: usize = 65_536;
 pub struct ByteSink<'a> {
     memory: &'a mut [u8],
     tally: Tally,
+    ghost within: { used_by tally ≤ min 65536 (length memory.now) },
 }
 
 impl<'a> ByteSink<'a> {
     // A sink over at most the first 65,536 octets of a memory.
     pub fn new(memory: &'a mut [u8]) -> ByteSink<'a>
         ensures means { meaning_of result.tally (min 65536 (length result.memory.now)) ≡ fresh (min 65536 (length memory.old)) }
-        ensures valid { used_by result.tally ≤ min 65536 (length result.memory.now) }
         ensures unused { used_by result.tally ≡ 0 }
         ensures memory { result.memory.now ≡ memory.old }
         ensures lender { result.memory.ghost_name ≡ memory.entry.ghost_name }
@@ -42,8 +42,6 @@ impl<'a> ByteSink<'a> {
 }
 
 impl<'a> Sink for ByteSink<'a> {
-    ghost valid = { λ s. used_by s.tally ≤ min 65536 (length s.memory.now) };
-
     ghost meaning = { λ s. meaning_of s.tally (min 65536 (length s.memory.now)) };
 
     ghost took = { λ s id end payload t. (meaning_of t.tally (min 65536 (length t.memory.now)) ≡ taken (meaning_of s.tally (min 65536 (length s.memory.now))) id end (length payload)) × (t.memory.now ≡ put_at s.memory.now (used_by s.tally) (encoded id end payload)) × (t.memory.ghost_name ≡ s.memory.ghost_name) };

@@ -11,13 +11,13 @@ use crate::tallies::{Latest, Tally};
 pub struct CountingSink {
     limit: u32,
     tally: Tally,
+    ghost within: { used_by tally ≤ limit },
 }
 
 impl CountingSink {
     // A sink of a given space.
     pub fn new(space: u32) -> CountingSink
         ensures means { meaning_of result.tally result.limit ≡ fresh space }
-        ensures valid { (used_by result.tally ≤ result.limit) × (result.limit ≤ 4294967295) }
     {
         CountingSink {
             limit: space,
@@ -27,8 +27,6 @@ impl CountingSink {
 }
 
 impl Sink for CountingSink {
-    ghost valid = { λ s. (used_by s.tally ≤ s.limit) × (s.limit ≤ 4294967295) };
-
     ghost meaning = { λ s. meaning_of s.tally s.limit };
 
     ghost took = { λ s id end payload t. (meaning_of t.tally t.limit ≡ taken (meaning_of s.tally s.limit) id end (length payload)) × (t.limit ≡ s.limit) };

@@ -14,9 +14,6 @@ pub enum Refusal {
 
 // A sink takes frames while its space lasts; a refusal or a question alters nothing.
 pub trait Sink {
-    // what the sink keeps in step between calls; a constructor makes it hold, and every call keeps it
-    ghost valid: { Self → Type 0 };
-
     ghost meaning: { Self → Meaning };
 
     // what taking a frame did to the sink in full
@@ -24,31 +21,29 @@ pub trait Sink {
 
     // Takes a DATA frame of a stream, with END_STREAM or not.
     fn put(&mut self, id: u32, end: bool, payload: &[u8]) -> Result<(), Refusal>
-        ensures does { valid self.old → Did meaning took id end payload.now self.old result self.new }
-        ensures keeps { valid self.old → valid self.new };
+        ensures { Did meaning took id end payload.now self.old result self.new };
 
     // How many frames were taken.
     fn frames(&self) -> u64
-        ensures { valid self.now → result ≡ (meaning self.now).frames };
+        ensures { result ≡ (meaning self.now).frames };
 
     // How many payload octets were taken.
     fn octets(&self) -> u64
-        ensures { valid self.now → result ≡ (meaning self.now).octets };
+        ensures { result ≡ (meaning self.now).octets };
 
     // The latest frame; none at first.
     fn latest(&self) -> Option<Latest>
-        ensures { valid self.now → result ≡ (meaning self.now).latest };
+        ensures { result ≡ (meaning self.now).latest };
 
     // The octets that frames can still take, headers counted; with what was taken they never pass 64 bits.
     fn space(&self) -> u64
-        ensures tells { valid self.now → result ≡ (meaning self.now).space }
-        ensures bounded { valid self.now → whole (meaning self.now) < 2 ^ 64 };
+        ensures tells { result ≡ (meaning self.now).space }
+        ensures bounded { whole (meaning self.now) < 2 ^ 64 };
 }
 
 // Puts two frames of a stream, the second with END_STREAM; the second is not put where the first is refused.
 pub fn put_pair<S: Sink>(sink: &mut S, id: u32, first: &[u8], second: &[u8]) -> Result<(), Refusal>
-    ensures does { S.Sink.valid sink.old → DidPair S.Sink.meaning S.Sink.took id first.now second.now sink.old result sink.new }
-    ensures keeps { S.Sink.valid sink.old → S.Sink.valid sink.new }
+    ensures does { DidPair S.Sink.meaning S.Sink.took id first.now second.now sink.old result sink.new }
 {
     sink.put(id, false, first)?;
     sink.put(id, true, second)
