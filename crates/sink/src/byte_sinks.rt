@@ -48,10 +48,10 @@ impl<'a> Sink for ByteSink<'a> {
 
     fn put(&mut self, id: u32, end: bool, payload: &[u8]) -> Result<(), Refusal> {
         let at = self.tally.used() as usize;
-        let limit = self.limit();
-        if !self.tally.take(limit, id, end, payload.len()) {
-            return Err(Refusal::Full);
-        }
+        self.tally = self
+            .tally
+            .with(self.limit(), id, end, payload.len())
+            .ok_or(Refusal::Full)?;
         let _ = write_data(self.memory, at, id, end, payload);
         Ok(())
     }

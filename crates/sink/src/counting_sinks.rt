@@ -32,11 +32,11 @@ impl Sink for CountingSink {
     ghost took = { λ s id end payload t. (meaning_of t.tally t.limit ≡ taken (meaning_of s.tally s.limit) id end (length payload)) × (t.limit ≡ s.limit) };
 
     fn put(&mut self, id: u32, end: bool, payload: &[u8]) -> Result<(), Refusal> {
-        if self.tally.take(self.limit, id, end, payload.len()) {
-            Ok(())
-        } else {
-            Err(Refusal::Full)
-        }
+        self.tally = self
+            .tally
+            .with(self.limit, id, end, payload.len())
+            .ok_or(Refusal::Full)?;
+        Ok(())
     }
 
     fn frames(&self) -> u64 {

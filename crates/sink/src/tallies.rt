@@ -34,22 +34,21 @@ impl Tally {
     pub(crate) fn used(&self) -> u64
         ensures { result ≡ used_by self.now }
     {
-        9 * self.frames as u64 + self.octets as u64
+        9 * u64::from(self.frames) + u64::from(self.octets)
     }
 
-    // Takes a frame if it fits what a limit leaves.
-    pub(crate) fn take(&mut self, limit: u32, id: u32, end: bool, n: usize) -> bool
-        ensures answers { result ≡ nat_le (9 + n) (limit - used_by self.old) }
-        ensures leaves { self.new ≡ (if result then with_frame self.old id end n else self.old) }
+    // The tally with one frame more; none where the frame exceeds what a limit leaves.
+    pub(crate) fn with(self, limit: u32, id: u32, end: bool, n: usize) -> Option<Tally>
+        ensures { result ≡ (if nat_le (9 + n) (limit - used_by self) then Some (with_frame self id end n) else None) }
     {
-        let space = (limit as u64).saturating_sub(self.used());
-        if space < 9 || n as u64 > space - 9 {
-            return false;
+        let length = u32::try_from(n).ok()?;
+        if u64::from(limit) < self.used() + 9 + u64::from(length) {
+            return None;
         }
-        let length = n as u32;
-        self.frames += 1;
-        self.octets += length;
-        self.latest = Some(Latest { id, end, length });
-        true
+        Some(Tally {
+            frames: self.frames + 1,
+            octets: self.octets + length,
+            latest: Some(Latest { id, end, length }),
+        })
     }
 }
