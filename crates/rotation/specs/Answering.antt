@@ -1,5 +1,5 @@
 -- What the answers of a rotation tell of a policy.
-use Rattle.std.specs.Prelude.{◌≡◌, ℕ, ◌+◌, ◌<◌, ◌≤◌, min, Bool, true, false, cond, List, [], ◌∷◌, ◌++◌, map, length, is_some, Some, None, Option, ◌≢◌, nat_lt, refl}
+use Rattle.std.specs.Prelude.{◌≡◌, ℕ, ◌+◌, ◌<◌, ◌≤◌, min, Bool, true, false, cond, List, [], ◌∷◌, ◌++◌, map, length, is_some, Some, None, Option, ◌≢◌, nat_lt}
 use Rattle.std.proofs.Common.{arith, sym, ◌∙◌, ap, subst, ⊎_elim}
 use Rattle.std.specs.Option.{option_map}
 use Rattle.std.proofs.lemmas.Bool.{true≢false, false≢true, lt-ltb, cond-true}
@@ -8,18 +8,18 @@ use Rattle.records.specs.Records.{seek, Absent}
 use Rattle.records.specs.Tables.{Is, without}
 use Rattle.wire.specs.declared.priorities.Priority.{Priority}
 use Rattle.wire.specs.Urgencies.{urgency_number}
-use Rattle.schedule.specs.Ranks.{Ranks, Event, Accepts, Listed, Least, served}
+use Rattle.schedule.specs.Ranks.{Ranks, Event, Accepts, Listed, Least, entered, served}
 use Rattle.schedule.specs.Policies.{Did}
 use Rattle.rotation.specs.declared.seats.Seat.{Seat}
 use Rattle.rotation.specs.declared.standings.Standing.{Standing}
-use Rattle.rotation.specs.Orders.{id_of, priority_of, seat_of, ranked, Kept, served_now, to_end, order_after, Turned}
+use Rattle.rotation.specs.Orders.{id_of, priority_of, seat_of, ranked, Kept, new_seat, served_now, to_end, order_after, Turned}
 use Rattle.rotation.specs.Choices.{before, standing_of, First}
 use Rattle.rotation.specs.Places.{seat-absent, seat-found, mapped-some, mapped-none}
 use Rattle.rotation.specs.Turning.{kept-after, length_without}
 
 -- a call that is refused, and one that is accepted
-pub refused : {P : Type 0} {ranks : P → Ranks} {turned : P → Event → P → Type 0} {event : Event} {s : P} → (Accepts (ranks s) event → ⊥) → Did ranks turned event s false s
-refused never = record { answers = (λ e. absurd (false≢true e), λ a. absurd (never a)); turns = λ e. absurd (false≢true e); stays = λ e. refl }
+pub refused : {P : Type 0} {ranks : P → Ranks} {turned : P → Event → P → Type 0} {event : Event} {s : P} → {t : P} → (Accepts (ranks s) event → ⊥) → t ≡ s → Did ranks turned event s false t
+refused never same = record { answers = (λ e. absurd (false≢true e), λ a. absurd (never a)); turns = λ e. absurd (false≢true e); stays = λ e. same }
 
 pub done : {P : Type 0} {ranks : P → Ranks} {turned : P → Event → P → Type 0} {event : Event} {s : P} {r : Bool} {t : P} → r ≡ true → Accepts (ranks s) event → turned s event t → Did ranks turned event s r t
 done e accepted turns = record { answers = (λ z. accepted, λ a. e); turns = λ z. turns; stays = λ z. absurd (true≢false (sym e ∙ z)) }
@@ -46,6 +46,11 @@ not-out xs id x is none = true≢false (sym (is_in xs id x is) ∙ ap is_some no
 
 pub not_in : (xs : List Seat) (id : ℕ) → Absent (map id_of xs) id → is_some ((ranked xs).rank id) ≢ true
 not_in xs id none is = true≢false (sym is ∙ ap is_some (is-out xs id none))
+
+-- a new seat at the end
+pub entered-turned : (xs ys : List Seat) (m id : ℕ) (p : Priority) (r : Bool) → Kept xs m → Absent (map id_of xs) id → length xs < 64
+    → r ≡ nat_lt (length xs) (min 64 m) → ys ≡ cond r (xs ++ new_seat id p ∷ []) xs → Turned xs (entered id p) ys
+entered-turned xs ys m id p r k none few answers rows = record { accepted = (is-out xs id none, few); order = rows ∙ cond-true r _ _ (room xs m r k few answers) }
 
 -- a seat that was taken out and put at the end as served
 pub served-turned : (xs rest ys : List Seat) (m n id octets : ℕ) (x : Seat) (r : Bool) → Kept xs m → Is id_of xs id x → rest ≡ without id_of id xs → n ≡ m

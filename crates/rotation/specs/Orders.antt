@@ -4,6 +4,7 @@
 -- of the seats that were served, the one served longest ago stands foremost.
 use Rattle.std.specs.Prelude.{◌≡◌, ℕ, ◌≤◌, true, false, cond, List, [], ◌∷◌, ◌++◌, length, Some, None, Option, ◌==◌}
 use Rattle.std.specs.Option.{option_map}
+use Rattle.std.proofs.Props.{props}
 use Rattle.records.specs.Tables.{without}
 use Rattle.wire.specs.declared.priorities.Priority.{Priority}
 use Rattle.schedule.specs.Ranks.{Ranks, Event, Accepts, entered, altered, left, served}
@@ -34,6 +35,14 @@ pub record Kept (xs : List Seat) (memory : ℕ) : Type 0 where
   pub few : length xs ≤ 64
   pub roomy : 64 ≤ memory
   pub distinct : Distinct xs
+
+-- that an order is kept has one proof, so a type may keep it
+distinct_prop : (xs : List Seat) → IsProp (Distinct xs)
+distinct_prop [] = Prim.hlevel props
+distinct_prop (x ∷ xs) = Prim.hlevel (props, distinct_prop xs)
+
+pub kept_prop : (xs : List Seat) (memory : ℕ) → IsProp (Kept xs memory)
+kept_prop xs memory = Prim.hlevel (props, distinct_prop)
 
 abbrev pub new_seat : ℕ → Priority → Seat
 new_seat id p = record { id = id; priority = p; served = false }

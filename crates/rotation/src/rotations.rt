@@ -1,9 +1,8 @@
 // A rotation: an order of seats under a rule.
-ghost use Rattle.std.specs.Prelude.{◌≡◌, [], map, IfOk, None};
+ghost use Rattle.std.specs.Prelude.{◌≡◌, [], map, IfOk, None, vec_capacity};
 ghost use Rattle.records.specs.Records.{Finds};
 ghost use Rattle.schedule.specs.Ranks.{fresh};
-ghost use Rattle.rotation.specs.Orders.{ranked, id_of};
-ghost use Rattle.rotation.specs.Rotations.{order_in, Whole};
+ghost use Rattle.rotation.specs.Orders.{ranked, id_of, Kept, kept_prop};
 ghost use Rattle.rotation.specs.Choices.{standing_of, better, chosen, First};
 
 use crate::rules::{InTurn, PlainFirst, Rule};
@@ -20,6 +19,7 @@ pub mod calls;
 pub struct Rotation<R> {
     table: Table<Seat>,
     rule: PhantomData<R>,
+    pub ghost kept: { Kept table.rows.items (vec_capacity table.rows) } by { kept_prop table.rows.items (vec_capacity table.rows) },
 }
 
 // Takes, within the least urgency, the id served longest ago.
@@ -29,9 +29,11 @@ pub type Turns = Rotation<InTurn>;
 pub type Ordered = Rotation<PlainFirst>;
 
 impl<R: Rule> Rotation<R> {
+    ghost use Rattle.rotation.specs.Rotations.{order_in};
+
     // An empty order, with the memory for 64 seats; only here can memory be wanting.
     pub fn new(heap: Global) -> Result<Rotation<R>, AllocError>
-        ensures { IfOk result (λ s. Whole s × (order_in s ≡ []) × (ranked (order_in s) ≡ fresh 64)) }
+        ensures { IfOk result (λ s. (order_in s ≡ []) × (ranked (order_in s) ≡ fresh 64)) }
     {
         let table = Table::new(heap)?;
         Ok(Rotation {

@@ -1,7 +1,7 @@
 // A rotation is a policy.
 ghost use Rattle.std.specs.Prelude.{None};
 ghost use Rattle.rotation.specs.Orders.{ranked, Turned};
-ghost use Rattle.rotation.specs.Rotations.{order_in, Whole};
+ghost use Rattle.rotation.specs.Rotations.{order_in};
 ghost use Rattle.rotation.specs.Choices.{standing_of, chosen};
 ghost use Rattle.rotation.specs.Answering.{least-from};
 ghost use Rattle.rotation.specs.Choosing.{chosen-first};
@@ -19,8 +19,6 @@ use wire::Priority;
 const LIMIT: usize = 64;
 
 impl<R: Rule> Policy for Rotation<R> {
-    ghost valid = { λ s. Whole s };
-
     ghost ranks = { λ s. ranked (order_in s) };
 
     ghost picks = { λ s ids. chosen (standing_of R.Rule.stands (order_in s)) None ids };
@@ -29,12 +27,12 @@ impl<R: Rule> Policy for Rotation<R> {
 
     ghost sound = { Prim.search rules };
 
-    ghost least = { λ s valid ids.
+    ghost least = { λ s ids.
         let order = s.table.rows.items in
         let rule = R.Rule.stands in
         least-from rule R.Rule.urgent order ids (chosen (standing_of rule order) None ids) (chosen-first (standing_of rule order) (stands-apart rule R.Rule.apart order) ids) };
 
-    ghost means = { λ s valid event t turned. turned-means s.table.rows.items t.table.rows.items event valid.distinct turned };
+    ghost means = { λ s event t turned. turned-means s.table.rows.items t.table.rows.items event s.kept.distinct turned };
 
     fn enter(&mut self, id: u32, priority: Priority) -> bool {
         if self.table.len() >= LIMIT {
@@ -93,7 +91,7 @@ impl<R: Rule> Policy for Rotation<R> {
     }
 
     fn entered(&self) -> u32 {
-        self.table.len().min(LIMIT) as u32
+        self.table.len() as u32
     }
 
     fn limit(&self) -> u32 {

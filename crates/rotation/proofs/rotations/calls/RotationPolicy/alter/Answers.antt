@@ -1,22 +1,30 @@
-use Rattle.std.proofs.Common.{map, set, vec_items, vec_capacity, refl}
+use Rattle.std.proofs.Common.{◌≡◌, ℕ, List, map, set, vec_items, vec_capacity, refl, ap}
 use Rattle.schedule.specs.Ranks.{altered}
 use Rattle.records.specs.Records.{seek}
-use Rattle.rotation.specs.Orders.{Turned, id_of, with_priority}
+use Rattle.records.specs.Tables.{Is}
+use Rattle.wire.specs.declared.priorities.Priority.{Priority}
+use Rattle.rotation.specs.declared.seats.Seat.{Seat}
+use Rattle.rotation.specs.declared.rotations.Rotation.{Rotation}
+use Rattle.rotation.specs.Orders.{Kept, kept_prop, Turned, id_of, with_priority}
 use Rattle.rotation.specs.Answering.{refused, done, kept-turned, is_in, not_in}
 use Rattle.rotation.specs.Turning.{altering-found}
 use Rattle.rotation.proofs.rotations.calls.RotationPolicy.alter.Goals as goal
 
+-- the seat that was found has another priority
+now-altered : (order : List Seat) (id : ℕ) (p : Priority) (x : Seat) → Is id_of order id x → Turned order (altered id p) (set order (seek (map id_of order) id) (with_priority p x))
+now-altered order id p x is = record { accepted = is_in order id x is; order = altering-found order id p x is.there is.at }
+
+-- that an order is kept has one proof
+same : {R : Type 0} (s : Rotation R) (kept : Kept (vec_items s.table.rows) (vec_capacity s.table.rows)) → ◌≡◌ {A = Rotation R} (record { table = s.table; rule = s.rule; kept = kept }) s
+same s kept = ap (λ k. record { table = s.table; rule = s.rule; kept = k }) (kept_prop _ _ kept s.kept)
+
 pub returns-in-None : goal.returns-in-None
-returns-in-None g c = record { does = λ kept. refused (not_in (vec_items c.args.self.now.table.rows) c.args.id c.in-None.ensures.finds); keeps = λ kept. kept }
+returns-in-None g c = refused (not_in (vec_items c.args.self.now.table.rows) c.args.id c.in-None.ensures.finds) (same c.args.self.now _)
+
+pub invariant_of-self-in-Some : goal.invariant_of-self-in-Some
+invariant_of-self-in-Some g c =
+    let order = vec_items c.args.self.now.table.rows in
+    record { kept = kept-turned order _ _ _ (altered c.args.id c.args.priority) c.args.self.now.kept (now-altered order c.args.id c.args.priority c.in-Some.seat.now c.in-Some.ensures.finds) refl }
 
 pub returns-in-Some : goal.returns-in-Some
-returns-in-Some g c =
-    let order = vec_items c.args.self.now.table.rows in
-    let is = c.in-Some.ensures.finds in
-    let event = altered c.args.id c.args.priority in
-    let turned : Turned order event (set order (seek (map id_of order) c.args.id) (with_priority c.args.priority c.in-Some.seat.now))
-    = record { accepted = is_in order c.args.id c.in-Some.seat.now is; order = altering-found order c.args.id c.args.priority c.in-Some.seat.now is.there is.at } in
-    record {
-      does = λ kept. done refl turned.accepted turned;
-      keeps = λ kept. kept-turned order _ (vec_capacity c.args.self.now.table.rows) _ event kept turned refl;
-    }
+returns-in-Some g c = let t = now-altered (vec_items c.args.self.now.table.rows) c.args.id c.args.priority c.in-Some.seat.now c.in-Some.ensures.finds in done refl t.accepted t

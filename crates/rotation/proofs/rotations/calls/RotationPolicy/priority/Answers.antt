@@ -6,7 +6,7 @@ use Rattle.rotation.specs.Places.{seat-found}
 use Rattle.rotation.proofs.rotations.calls.RotationPolicy.priority.Goals as goal
 
 pub returns-in-None : goal.returns-in-None
-returns-in-None g c = λ kept. sym (is-out (vec_items c.args.self.now.table.rows) c.args.id c.in-None.ensures)
+returns-in-None g c = sym (is-out (vec_items c.args.self.now.table.rows) c.args.id c.in-None.ensures)
 
 pub returns-in-Some : goal.returns-in-Some
-returns-in-Some g c = λ kept. sym (ap (option_map priority_of) (seat-found (vec_items c.args.self.now.table.rows) c.args.id c.in-Some.seat.now c.in-Some.ensures))
+returns-in-Some g c = sym (ap (option_map priority_of) (seat-found (vec_items c.args.self.now.table.rows) c.args.id c.in-Some.seat.now c.in-Some.ensures))

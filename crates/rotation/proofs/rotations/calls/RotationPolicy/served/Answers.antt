@@ -1,25 +1,21 @@
-use Rattle.std.proofs.Common.{vec_items, vec_capacity, refl, ◌∙◌}
+use Rattle.std.proofs.Common.{vec_items, refl, ◌∙◌}
 use Rattle.schedule.specs.Ranks.{served}
-use Rattle.rotation.specs.Orders.{Kept, Turned}
 use Rattle.rotation.specs.Answering.{kept-turned, served-turned, unserved-turned, not-out}
 use Rattle.rotation.proofs.rotations.calls.RotationPolicy.served.Goals as goal
 
 pub returns-in-None : goal.returns-in-None
-returns-in-None g c =
-    record {
-      does = λ kept. record { turns = unserved-turned (vec_items c.args.self.now.table.rows) c.args.id c.args.octets c.in-None.ensures; stays = λ none. refl };
-      keeps = λ kept. kept;
-    }
+returns-in-None g c = record { turns = unserved-turned (vec_items c.args.self.now.table.rows) c.args.id c.args.octets c.in-None.ensures; stays = λ none. refl }
+
+pub invariant_of-self : goal.invariant_of-self
+invariant_of-self g c =
+    let order = vec_items c.args.self.now.table.rows in
+    let turned = served-turned order _ _ _ _ c.args.id c.args.octets c.in-Some.seat.now c.add.result c.args.self.now.kept c.in-Some.ensures c.remove.ensures.rows c.remove.ensures.memory c.add.ensures.answers c.add.ensures.rows in
+    record { kept = kept-turned order _ _ _ (served c.args.id c.args.octets) c.args.self.now.kept turned (c.add.ensures.memory ∙ c.remove.ensures.memory) }
 
 pub returns : goal.returns
 returns g c =
     let order = vec_items c.args.self.now.table.rows in
-    let memory = vec_capacity c.args.self.now.table.rows in
-    let last = vec_items c.add.new.self.rows in
-    let is = c.in-Some.ensures in
-    let turned : Kept order memory → Turned order (served c.args.id c.args.octets) last
-    = λ kept. served-turned order (vec_items c.remove.new.self.rows) last memory (vec_capacity c.remove.new.self.rows) c.args.id c.args.octets c.in-Some.seat.now c.add.result kept is c.remove.ensures.rows c.remove.ensures.memory c.add.ensures.answers c.add.ensures.rows in
     record {
-      does = λ kept. record { turns = turned kept; stays = λ none. absurd (not-out order c.args.id c.in-Some.seat.now is none) };
-      keeps = λ kept. kept-turned order last memory _ (served c.args.id c.args.octets) kept (turned kept) (c.add.ensures.memory ∙ c.remove.ensures.memory);
+      turns = served-turned order _ _ _ _ c.args.id c.args.octets c.in-Some.seat.now c.add.result c.args.self.now.kept c.in-Some.ensures c.remove.ensures.rows c.remove.ensures.memory c.add.ensures.answers c.add.ensures.rows;
+      stays = λ none. absurd (not-out order c.args.id c.in-Some.seat.now c.in-Some.ensures none);
     }
