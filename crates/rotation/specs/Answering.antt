@@ -1,11 +1,12 @@
 -- What the answers of a rotation tell of a policy.
 use Rattle.std.specs.Prelude.{◌≡◌, ℕ, ◌+◌, ◌<◌, ◌≤◌, min, Bool, true, false, cond, List, [], ◌∷◌, ◌++◌, map, length, is_some, Some, None, Option, ◌≢◌, nat_lt}
+use Rattle.std.specs.Borrow.{Bor}
 use Rattle.std.proofs.Common.{arith, sym, ◌∙◌, ap, subst, ⊎_elim}
 use Rattle.std.specs.Option.{option_map}
 use Rattle.std.proofs.lemmas.Bool.{true≢false, false≢true, lt-ltb, cond-true}
 use Rattle.std.proofs.lemmas.Bool.Decides.{nat_tests}
 use Rattle.records.specs.Records.{seek, Absent}
-use Rattle.records.specs.Tables.{Is, without}
+use Rattle.records.specs.Tables.{Is, Found, without}
 use Rattle.wire.specs.declared.priorities.Priority.{Priority}
 use Rattle.wire.specs.Urgencies.{urgency_number}
 use Rattle.schedule.specs.Ranks.{Ranks, Event, Accepts, Listed, Least, entered, served}
@@ -47,10 +48,23 @@ not-out xs id x is none = true≢false (sym (is_in xs id x is) ∙ ap is_some no
 pub not_in : (xs : List Seat) (id : ℕ) → Absent (map id_of xs) id → is_some ((ranked xs).rank id) ≢ true
 not_in xs id none is = true≢false (sym is ∙ ap is_some (is-out xs id none))
 
+-- the seat that a table lends is the id's, so the id is in exactly where one is lent
+pub seat-lent : (xs : List Seat) (id : ℕ) (r : Option (Bor Seat)) → Found id_of xs id r → seat_of xs id ≡ option_map (λ x. x.now) r
+seat-lent xs id None none = seat-absent xs id none
+seat-lent xs id (Some x) is = seat-found xs id x.now is
+
+pub lent : (xs : List Seat) (id : ℕ) (r : Option (Bor Seat)) → Found id_of xs id r → is_some r ≡ true → is_some ((ranked xs).rank id) ≡ true
+lent xs id None none e = absurd cc
+lent xs id (Some x) is e = is_in xs id x.now is
+
+pub not_lent : (xs : List Seat) (id : ℕ) (r : Option (Bor Seat)) → Found id_of xs id r → is_some r ≡ false → (ranked xs).rank id ≡ None
+not_lent xs id None none e = is-out xs id none
+not_lent xs id (Some x) is e = absurd cc
+
 -- a new seat at the end
-pub entered-turned : (xs ys : List Seat) (m id : ℕ) (p : Priority) (r : Bool) → Kept xs m → Absent (map id_of xs) id → length xs < 64
+pub entered-turned : (xs ys : List Seat) (m id : ℕ) (p : Priority) (r : Bool) → Kept xs m → (ranked xs).rank id ≡ None → length xs < 64
     → r ≡ nat_lt (length xs) (min 64 m) → ys ≡ cond r (xs ++ new_seat id p ∷ []) xs → Turned xs (entered id p) ys
-entered-turned xs ys m id p r k none few answers rows = record { accepted = (is-out xs id none, few); order = rows ∙ cond-true r _ _ (room xs m r k few answers) }
+entered-turned xs ys m id p r k none few answers rows = record { accepted = (none, few); order = rows ∙ cond-true r _ _ (room xs m r k few answers) }
 
 -- a seat that was taken out and put at the end as served
 pub served-turned : (xs rest ys : List Seat) (m n id octets : ℕ) (x : Seat) (r : Bool) → Kept xs m → Is id_of xs id x → rest ≡ without id_of id xs → n ≡ m

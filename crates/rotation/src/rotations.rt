@@ -1,8 +1,7 @@
 // A rotation: an order of seats under a rule.
-ghost use Rattle.std.specs.Prelude.{◌≡◌, [], map, IfOk, None, vec_capacity};
-ghost use Rattle.records.specs.Records.{Finds};
+ghost use Rattle.std.specs.Prelude.{◌≡◌, [], IfOk, None, vec_capacity};
 ghost use Rattle.schedule.specs.Ranks.{fresh};
-ghost use Rattle.rotation.specs.Orders.{ranked, id_of, Kept, kept_prop};
+ghost use Rattle.rotation.specs.Orders.{ranked, Kept, kept_prop};
 ghost use Rattle.rotation.specs.Choices.{standing_of, better, chosen, First};
 
 use crate::rules::{InTurn, PlainFirst, Rule};
@@ -42,18 +41,11 @@ impl<R: Rule> Rotation<R> {
         })
     }
 
-    // The place of an id's seat in the order.
-    fn place(&self, id: u32) -> Option<usize>
-        ensures { Finds (map id_of (order_in self.now)) id result }
-    {
-        find(self.table.rows.as_slice(), id)
-    }
-
     // Where an id stands; none where it has no seat.
     fn standing(&self, id: u32) -> Option<Standing>
         ensures { result ≡ standing_of R.Rule.stands (order_in self.now) id }
     {
-        let place = self.place(id)?;
+        let place = find(self.table.rows.as_slice(), id)?;
         Some(R::standing(place, &self.table.rows[place]))
     }
 
@@ -61,10 +53,7 @@ impl<R: Rule> Rotation<R> {
     fn better(&self, best: Option<u32>, id: u32) -> Option<u32>
         ensures { result ≡ better (standing_of R.Rule.stands (order_in self.now)) best id }
     {
-        let best_standing = match best {
-            Some(b) => self.standing(b),
-            None => None,
-        };
+        let best_standing = best.and_then(|b| self.standing(b));
         if is_sooner(self.standing(id), best_standing) {
             Some(id)
         } else {

@@ -7,7 +7,7 @@ ghost use Rattle.rotation.specs.Choices.{in_turn, plain_first};
 ghost use Rattle.std.proofs.Common.{rules};
 
 use crate::seats::Seat;
-use crate::standings::Standing;
+use crate::standings::{Group, Standing};
 
 // A rule: where a seat at a place of the order stands among others.
 pub trait Rule {
@@ -39,13 +39,13 @@ impl Rule for InTurn {
         if seat.served {
             Standing {
                 urgency,
-                group: 2,
+                group: Group::Served,
                 number: place as u64,
             }
         } else {
             Standing {
                 urgency,
-                group: 1,
+                group: Group::New,
                 number: seat.id as u64,
             }
         }
@@ -68,7 +68,7 @@ impl Rule for PlainFirst {
         }
         Standing {
             urgency: seat.priority.urgency.number(),
-            group: 0,
+            group: Group::Plain,
             number: seat.id as u64,
         }
     }

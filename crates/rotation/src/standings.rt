@@ -1,28 +1,21 @@
 // Where a seat stands among others.
 ghost use Rattle.std.specs.Prelude.{◌≡◌};
-ghost use Rattle.rotation.specs.Choices.{before, sooner};
+ghost use Rattle.rotation.specs.Choices.{sooner};
 
-// Where a seat stands: the smaller urgency comes first, then the smaller group, then the smaller number.
-#[derive(Clone, Copy)]
-pub struct Standing {
-    pub urgency: u8,
-    pub group: u8,
-    pub number: u64,
+// The groups within an urgency, the first one first.
+#[derive(Clone, Copy, PartialEq, Eq, PartialOrd, Ord)]
+pub enum Group {
+    Plain,
+    New,
+    Served,
 }
 
-impl Standing {
-    // Whether this comes before another.
-    fn is_before(self, other: Standing) -> bool
-        ensures { result ≡ before self other }
-    {
-        if self.urgency != other.urgency {
-            return self.urgency < other.urgency;
-        }
-        if self.group != other.group {
-            return self.group < other.group;
-        }
-        self.number < other.number
-    }
+// Where a seat stands: the smaller urgency comes first, then the earlier group, then the smaller number.
+#[derive(Clone, Copy, PartialEq, Eq, PartialOrd, Ord)]
+pub struct Standing {
+    pub urgency: u8,
+    pub group: Group,
+    pub number: u64,
 }
 
 // Whether a standing comes before the best so far, if there is one.
@@ -32,6 +25,6 @@ pub(crate) fn is_sooner(standing: Option<Standing>, best: Option<Standing>) -> b
     match (standing, best) {
         (None, _) => false,
         (Some(_), None) => true,
-        (Some(s), Some(b)) => s.is_before(b),
+        (Some(s), Some(b)) => s < b,
     }
 }

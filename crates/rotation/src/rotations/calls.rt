@@ -35,10 +35,11 @@ impl<R: Rule> Policy for Rotation<R> {
     ghost means = { λ s event t turned. turned-means s.table.rows.items t.table.rows.items event s.kept.distinct turned };
 
     fn enter(&mut self, id: u32, priority: Priority) -> bool {
+        // A full table promises its seats alone, and a refusal leaves all of the policy as it was.
         if self.table.len() >= LIMIT {
             return false;
         }
-        if let Some(_) = self.table.get(id) {
+        if self.table.get(id).is_some() {
             return false;
         }
         self.table.add(Seat {
@@ -49,17 +50,16 @@ impl<R: Rule> Policy for Rotation<R> {
     }
 
     fn alter(&mut self, id: u32, priority: Priority) -> bool {
-        match self.table.get_mut(id) {
-            None => false,
-            Some(seat) => {
-                seat.priority = priority;
-                true
-            }
-        }
+        let Some(seat) = self.table.get_mut(id) else {
+            return false;
+        };
+        seat.priority = priority;
+        true
     }
 
     fn leave(&mut self, id: u32) -> bool {
-        if let None = self.table.get(id) {
+        // What takes out no seat promises the seats alone, and a refusal leaves all of the policy as it was.
+        if self.table.get(id).is_none() {
             return false;
         }
         self.table.remove(id);
@@ -67,15 +67,13 @@ impl<R: Rule> Policy for Rotation<R> {
     }
 
     fn served(&mut self, id: u32, octets: u32) {
-        let seat = match self.table.get(id) {
-            None => return,
-            Some(seat) => *seat,
+        let Some(&seat) = self.table.get(id) else {
+            return;
         };
         self.table.remove(id);
         self.table.add(Seat {
-            id: seat.id,
-            priority: seat.priority,
             served: true,
+            ..seat
         });
     }
 
@@ -84,10 +82,7 @@ impl<R: Rule> Policy for Rotation<R> {
     }
 
     fn priority(&self, id: u32) -> Option<Priority> {
-        match self.table.get(id) {
-            None => None,
-            Some(seat) => Some(seat.priority),
-        }
+        self.table.get(id).map(|seat| seat.priority)
     }
 
     fn entered(&self) -> u32 {

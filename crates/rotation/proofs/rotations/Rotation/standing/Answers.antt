@@ -5,11 +5,16 @@ use Rattle.rotation.specs.Places.{standing-absent, standing-found}
 use Rattle.rotation.proofs.rotations.Rotation.standing.Goals as goal
 
 pub returns-in_err-place : goal.returns-in_err-place
-returns-in_err-place g c = c.from_residual.ensures ∙ sym (standing-absent g.R.Rule.stands (vec_items c.args.self.now.table.rows) c.args.id c.in_err-place.ensures)
+returns-in_err-place g c =
+    let absent = rw c.as_slice.ensures.value at c.in_err-place.ensures in
+    c.from_residual.ensures ∙ sym (standing-absent g.R.Rule.stands (vec_items c.args.self.now.table.rows) c.args.id absent)
 
 pub index-requires : goal.index-requires
-index-requires g c = omega (arith, found_within id_of (vec_items c.args.self.now.table.rows) c.args.id c.in_ok-place.place c.in_ok-place.ensures, c.args.self.now.table.rows.ok.0)
+index-requires g c =
+    let found = rw c.as_slice.ensures.value at c.in_ok-place.ensures in
+    omega (arith, found_within id_of (vec_items c.args.self.now.table.rows) c.args.id c.in_ok-place.place found, c.args.self.now.table.rows.ok.0)
 
 pub returns : goal.returns
 returns g c =
-    ap (λ s. Some s) c.standing.ensures ∙ standing-found g.R.Rule.stands (vec_items c.args.self.now.table.rows) c.args.id c.in_ok-place.place c.index.result.now c.in_ok-place.ensures c.index.ensures
+    let found = rw c.as_slice.ensures.value at c.in_ok-place.ensures in
+    ap (λ s. Some s) c.standing.ensures ∙ standing-found g.R.Rule.stands (vec_items c.args.self.now.table.rows) c.args.id c.in_ok-place.place c.index.result.now found c.index.ensures

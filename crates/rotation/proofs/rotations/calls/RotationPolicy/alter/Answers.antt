@@ -18,13 +18,13 @@ now-altered order id p x is = record { accepted = is_in order id x is; order = a
 same : {R : Type 0} (s : Rotation R) (kept : Kept (vec_items s.table.rows) (vec_capacity s.table.rows)) → ◌≡◌ {A = Rotation R} (record { table = s.table; rule = s.rule; kept = kept }) s
 same s kept = ap (λ k. record { table = s.table; rule = s.rule; kept = k }) (kept_prop _ _ kept s.kept)
 
-pub returns-in-None : goal.returns-in-None
-returns-in-None g c = refused (not_in (vec_items c.args.self.now.table.rows) c.args.id c.in-None.ensures.finds) (same c.args.self.now _)
+pub returns-in_default : goal.returns-in_default
+returns-in_default g c = refused (not_in (vec_items c.args.self.now.table.rows) c.args.id c.in_default.ensures.finds) (same c.args.self.now _)
 
-pub invariant_of-self-in-Some : goal.invariant_of-self-in-Some
-invariant_of-self-in-Some g c =
+pub invariant_of-self-2 : goal.invariant_of-self-2
+invariant_of-self-2 g c =
     let order = vec_items c.args.self.now.table.rows in
     record { kept = kept-turned order _ _ _ (altered c.args.id c.args.priority) c.args.self.now.kept (now-altered order c.args.id c.args.priority c.in-Some.seat.now c.in-Some.ensures.finds) refl }
 
-pub returns-in-Some : goal.returns-in-Some
-returns-in-Some g c = let t = now-altered (vec_items c.args.self.now.table.rows) c.args.id c.args.priority c.in-Some.seat.now c.in-Some.ensures.finds in done refl t.accepted t
+pub returns : goal.returns
+returns g c = let t = now-altered (vec_items c.args.self.now.table.rows) c.args.id c.args.priority c.in-Some.seat.now c.in-Some.ensures.finds in done refl t.accepted t
