@@ -125,3 +125,7 @@ Steps e a r x = Tied e.state → Answers e a r × (x.state ≡ after e.state (ha
 -- a new connection over a fresh gate and a fresh policy stands, beside a sink that has taken nothing, at a fresh moment
 abbrev pub Begins : credit.Meaning → schedule.Ranks → sink.Meaning → Moment → Type 0
 Begins g p k n = g ≡ credit.fresh g.limit → p ≡ schedule.fresh p.limit → k ≡ sink.fresh k.space → Reached n start n
+
+-- beside a sink that has taken nothing, whatever its space, a connection stands at a fresh moment
+abbrev pub Starts : (sink.Meaning → Moment) → Type 0
+Starts moment = (k : sink.Meaning) → k ≡ sink.fresh k.space → Reached (moment k) start (moment k)

@@ -1,16 +1,9 @@
 // Fresh connections over our gates and policies: the empty history leads to them, with no premise left.
 #![tactic(auto)]
 
-ghost use Rattle.std.specs.Prelude.{◌≡◌, ℕ, min, IfOk, None};
-ghost use Rattle.accounts.specs.Books.{meaning_of};
-ghost use Rattle.credit.specs.Credit.{most_room};
-ghost use Rattle.sink.specs.Meaning.{Meaning, fresh};
-ghost use Rattle.rotation.specs.Choices.{standing_of, chosen};
-ghost use Rattle.rotation.specs.Orders.{ranked};
-ghost use Rattle.rotation.specs.Rotations.{order_in, Whole};
-ghost use Rattle.model.specs.Histories.{start};
-ghost use Rattle.model.specs.Laws.{Reached};
-ghost use Rattle.sender.specs.Connections.{spot_of, moment_of};
+ghost use Rattle.std.specs.Prelude.{◌≡◌, IfOk};
+ghost use Rattle.model.specs.Laws.{Starts};
+ghost use Rattle.sender.specs.Connections.{moment_of};
 
 use credit::{Cap, Gate};
 use rotation::Rotation;
@@ -25,7 +18,7 @@ use windows::gates::Layout;
 pub fn fresh_connection<L: Layout, R: Rule>(
     heap: Global,
 ) -> Result<Connection<Windows<L>, Rotation<R>>, AllocError>
-    ensures { IfOk result (λ c. (k : Meaning) → k ≡ fresh k.space → Reached (moment_of (λ g. meaning_of g.books) (λ g. most_room (meaning_of g.books)) (λ p. ranked (order_in p)) (λ p ids. chosen (standing_of R.Rule.stands (order_in p)) None ids) c k) start (spot_of (λ g. meaning_of g.books) (λ g. most_room (meaning_of g.books)) (λ g. g.books.storage ≡ L.Layout.stored) (λ p. ranked (order_in p)) (λ p ids. chosen (standing_of R.Rule.stands (order_in p)) None ids) (λ p. Whole p) c k)) }
+    ensures { IfOk result (λ c. Starts (moment_of ⟦<Windows<L> as Gate>⟧ ⟦<Rotation<R> as Policy>⟧ c)) }
 {
     let gate = Windows::<L>::new(heap)?;
     let policy = Rotation::<R>::new(heap)?;
@@ -38,7 +31,7 @@ pub fn fresh_capped<L: Layout, R: Rule>(
     most: u32,
 ) -> Result<Connection<Cap<Windows<L>>, Rotation<R>>, AllocError>
     ensures capped { IfOk result (λ c. c.gate.most ≡ most) }
-    ensures reached { IfOk result (λ c. (k : Meaning) → k ≡ fresh k.space → Reached (moment_of (λ g. meaning_of g.below.books) (λ g id. min (most_room (meaning_of g.below.books) id) g.most) (λ p. ranked (order_in p)) (λ p ids. chosen (standing_of R.Rule.stands (order_in p)) None ids) c k) start (spot_of (λ g. meaning_of g.below.books) (λ g id. min (most_room (meaning_of g.below.books) id) g.most) (λ g. g.below.books.storage ≡ L.Layout.stored) (λ p. ranked (order_in p)) (λ p ids. chosen (standing_of R.Rule.stands (order_in p)) None ids) (λ p. Whole p) c k)) }
+    ensures reached { IfOk result (λ c. Starts (moment_of ⟦<Cap<Windows<L>> as Gate>⟧ ⟦<Rotation<R> as Policy>⟧ c)) }
 {
     let gate = Cap::over(Windows::<L>::new(heap)?, most);
     let policy = Rotation::<R>::new(heap)?;

@@ -8,7 +8,7 @@ use sender::{Connection, ConnectionReading, StreamReading};
 use std::process::Abort;
 use std::test::Fail;
 use windows::gates::{Direct, Offset};
-use wire::{Fault, Priority, Urgency};
+use wire::{Cause, Fault, Priority, Urgency};
 
 const FRESH: ConnectionReading = ConnectionReading {
     window: 65_535,
@@ -61,22 +61,12 @@ fn check_raised<G: Gate, P: Policy>(rt: &impl Abort, connection: &mut Connection
 
 // An increment for idle stream 3 ends the connection.
 fn check_ended<G: Gate, P: Policy>(rt: &impl Abort, connection: &mut Connection<G, P>) {
-    let idle = Fault {
-        number: 4,
-        code: 1,
-        stream: 0,
-        place: 5,
-    };
+    let idle = Fault::new(Cause::Protocol, 0, 5);
     assert_eq!(rt;
         connection.frame(b"\0\0\x04\x08\0\0\0\0\x03\0\0\0\x0a"),
         Err(idle)
     );
-    let ended = Fault {
-        number: 1,
-        code: 0,
-        stream: 0,
-        place: 0,
-    };
+    let ended = Fault::new(Cause::Ended, 0, 0);
     assert_eq!(rt; connection.open(3, b""), Err(ended));
     let last = ConnectionReading {
         live: false,

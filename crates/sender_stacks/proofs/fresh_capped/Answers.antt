@@ -9,12 +9,10 @@ use Rattle.sender_stacks.proofs.fresh_capped.Goals as goal
 pub returns : goal.returns
 returns g c =
     let below = ap (λ h. h.below) c.over-gate.ensures in
-    let gate = c.in_ok-new.ensures in
-    let policy = c.in_ok-policy.ensures in
     record {
       capped = IfOk-weaker c.new-3.result _ _ (λ x keeps. ap (λ h. h.most) (keeps.0 ∙ c.over-gate.ensures)) c.new-3.ensures.keeps;
       reached =
           IfOk-weaker c.new-3.result _ _
-          (λ x begins k taken. begins k (own-limit credit.fresh (λ m. m.limit) _ 64 refl (ap (λ b. meaning_of b.books) below ∙ gate.0)) (own-limit schedule.fresh (λ m. m.limit) _ 64 refl policy.2) taken (ap (λ b. b.books.storage) below ∙ gate.1, policy.0))
+          (λ x begins k taken. begins k (own-limit credit.fresh (λ m. m.limit) _ 64 refl (ap (λ b. meaning_of b.books) below ∙ c.in_ok-new.ensures)) (own-limit schedule.fresh (λ m. m.limit) _ 64 refl c.in_ok-policy.ensures.1) taken)
           c.new-3.ensures.begins;
     }
