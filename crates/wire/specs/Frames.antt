@@ -1,5 +1,5 @@
 -- What the octets of a frame say: RFC 9113, sections 4.1, 6.4, 6.5 and 6.9, and RFC 9218, section 7.1.
-use Rattle.std.specs.Prelude.{◌≡◌, ℕ, ◌+◌, ◌%◌, min, Bool, cond, not, List, ◌∷◌, ◌++◌, length, take, drop, Ok, Err, Result, ◌==◌, bit_and, nat_lt, slice_index}
+use Rattle.std.specs.Prelude.{ℕ, ◌+◌, ◌%◌, min, Bool, cond, not, List, ◌∷◌, ◌++◌, length, take, drop, Ok, Err, Result, ◌==◌, bit_and, nat_lt, slice_index}
 use Rattle.wire.specs.declared.faults.Fault.{Fault}
 use Rattle.wire.specs.declared.headers.Header.{Header}
 use Rattle.wire.specs.declared.frames.Frame.{Frame}
@@ -25,11 +25,6 @@ header_of o =
 -- the nine octets of a header; the reserved bit is 0
 abbrev pub header_octets : Header → List ℕ
 header_octets h = octets_of 3 h.length ++ (h.kind ∷ h.flags ∷ octets_of 4 (without_top_bit h.stream))
-
--- a header that was read counts the octets behind it
-abbrev pub AsLong : List ℕ → Result Header Fault → Type 0
-AsLong o (Ok h) = 9 + h.length ≡ length o
-AsLong o (Err e) = Unit {0}
 
 -- a frame, with the octets themselves where the code lends them
 pub data Told : Type 0 where
@@ -63,6 +58,10 @@ settings_frame h o =
     (cond (lowest_flag h)
     (refuse (not (h.length == 0)) frame_size (Ok settings_ack))
     (refuse (not (h.length % 6 == 0)) frame_size (Ok (settings (drop 9 o) 9))))
+
+-- a payload of four octets, by the number that they write
+abbrev pub number_payload : Header → List ℕ → Result ℕ Fault
+number_payload h o = refuse (not (h.length == 4)) frame_size (Ok (field o 9 4))
 
 -- WINDOW_UPDATE: an increment of four octets
 abbrev pub window_update_frame : Header → List ℕ → Result Told Fault

@@ -3,7 +3,7 @@ ghost use Rattle.std.specs.Prelude.{◌≡◌, ℕ, ◌+◌, ◌^◌, ◌<◌, t
 ghost use Rattle.wire.specs.DataFrames.{told_data, data_of, encoded, put_at, written, ReadsBack};
 
 use crate::Fault;
-use crate::headers::{Header, header_octets, read_header};
+use crate::headers::{Header, Whole, header_octets, read_header};
 use crate::kinds::Kind;
 
 // A DATA frame as it was read; the payload is a part of the frame's own octets.
@@ -24,15 +24,14 @@ const LONGEST: usize = 16_777_215;
 pub fn read_data<'a>(octets: &'a [u8]) -> Result<Data<'a>, Fault>
     ensures { told_data result ≡ data_of octets.now }
 {
-    let header = read_header(octets)?;
+    let Whole { header, octets } = read_header(octets)?;
     if header.kind != Kind::Data.octet() {
         return Err(Fault::not_whole());
     }
-    let (_, payload) = octets.split_at(9);
     Ok(Data {
         stream: header.stream,
         end: header.flags & END_STREAM != 0,
-        payload,
+        payload: &octets[9..],
     })
 }
 

@@ -1,9 +1,9 @@
 // Frames read: what the octets of one frame say, or the fault that refuses them.
-ghost use Rattle.std.specs.Prelude.{◌≡◌, ◌+◌, ◌<◌, ◌≤◌, length, take, drop};
-ghost use Rattle.wire.specs.Frames.{told, frame_of, settings_frame, window_update_frame, reset_stream_frame, priority_update_frame, frame_end};
+ghost use Rattle.std.specs.Prelude.{◌≡◌, ◌+◌, ◌<◌, length, take, drop};
+ghost use Rattle.wire.specs.Frames.{told, frame_of, settings_frame, number_payload, window_update_frame, reset_stream_frame, priority_update_frame, frame_end};
 
 use crate::Fault;
-use crate::headers::{Header, read_header};
+use crate::headers::{Whole, read_header};
 use crate::kinds::Kind;
 use crate::numbers::{number, without_top_bit};
 use crate::settings::Pairs;
@@ -42,15 +42,16 @@ const ACK: u8 = 0x1;
 pub fn read_frame<'a>(octets: &'a [u8]) -> Result<Frame<'a>, Fault>
     ensures { told result ≡ frame_of octets.now }
 {
-    let header = read_header(octets)?;
+    let whole = read_header(octets)?;
+    let header = whole.header;
     if header.length > LONGEST {
         return Err(Fault::frame_size());
     }
     match Kind::try_from(header.kind) {
-        Ok(Kind::ResetStream) => read_reset_stream(header, octets),
-        Ok(Kind::Settings) => read_settings(header, octets),
-        Ok(Kind::WindowUpdate) => read_window_update(header, octets),
-        Ok(Kind::PriorityUpdate) => read_priority_update(header, octets),
+        Ok(Kind::ResetStream) => read_reset_stream(whole),
+        Ok(Kind::Settings) => read_settings(whole),
+        Ok(Kind::WindowUpdate) => read_window_update(whole),
+        Ok(Kind::PriorityUpdate) => read_priority_update(whole),
         Ok(Kind::Data) | Err(_) => Ok(Frame::Other {
             kind: header.kind,
             stream: header.stream,
@@ -58,10 +59,10 @@ pub fn read_frame<'a>(octets: &'a [u8]) -> Result<Frame<'a>, Fault>
     }
 }
 
-fn read_settings<'a>(header: Header, octets: &'a [u8]) -> Result<Frame<'a>, Fault>
-    requires { (9 + header.length ≡ length octets.now) × (header.length ≤ 16384) }
-    ensures { told result ≡ settings_frame header octets.now }
+fn read_settings<'a>(whole: Whole<'a>) -> Result<Frame<'a>, Fault>
+    ensures { told result ≡ settings_frame whole.entry.header whole.entry.octets.now }
 {
+    let header = whole.header;
     if header.stream != 0 {
         return Err(Fault::protocol(5));
     }
@@ -74,53 +75,52 @@ fn read_settings<'a>(header: Header, octets: &'a [u8]) -> Result<Frame<'a>, Faul
     if header.length % 6 != 0 {
         return Err(Fault::frame_size());
     }
-    let (_, pairs) = octets.split_at(9);
     Ok(Frame::Settings(Pairs {
-        octets: pairs,
+        octets: &whole.octets[9..],
         place: 9,
     }))
 }
 
-fn read_window_update<'a>(header: Header, octets: &'a [u8]) -> Result<Frame<'a>, Fault>
-    requires { 9 + header.length ≡ length octets.now }
-    ensures { told result ≡ window_update_frame header octets.now }
+// The number that a payload of four octets writes.
+fn read_number(whole: Whole) -> Result<u32, Fault>
+    ensures { result ≡ number_payload whole.entry.header whole.entry.octets.now }
 {
-    if header.length != 4 {
+    if whole.header.length != 4 {
         return Err(Fault::frame_size());
     }
+    Ok(number(&whole.octets[9..13]))
+}
+
+fn read_window_update<'a>(whole: Whole<'a>) -> Result<Frame<'a>, Fault>
+    ensures { told result ≡ window_update_frame whole.entry.header whole.entry.octets.now }
+{
     Ok(Frame::WindowUpdate {
-        stream: header.stream,
-        increment: without_top_bit(number(&octets[9..13])),
+        stream: whole.header.stream,
+        increment: without_top_bit(read_number(whole)?),
     })
 }
 
-fn read_reset_stream<'a>(header: Header, octets: &'a [u8]) -> Result<Frame<'a>, Fault>
-    requires { 9 + header.length ≡ length octets.now }
-    ensures { told result ≡ reset_stream_frame header octets.now }
+fn read_reset_stream<'a>(whole: Whole<'a>) -> Result<Frame<'a>, Fault>
+    ensures { told result ≡ reset_stream_frame whole.entry.header whole.entry.octets.now }
 {
-    if header.length != 4 {
-        return Err(Fault::frame_size());
-    }
     Ok(Frame::ResetStream {
-        stream: header.stream,
-        code: number(&octets[9..13]),
+        stream: whole.header.stream,
+        code: read_number(whole)?,
     })
 }
 
-fn read_priority_update<'a>(header: Header, octets: &'a [u8]) -> Result<Frame<'a>, Fault>
-    requires { 9 + header.length ≡ length octets.now }
-    ensures { told result ≡ priority_update_frame header octets.now }
+fn read_priority_update<'a>(whole: Whole<'a>) -> Result<Frame<'a>, Fault>
+    ensures { told result ≡ priority_update_frame whole.entry.header whole.entry.octets.now }
 {
-    if header.stream != 0 {
+    if whole.header.stream != 0 {
         return Err(Fault::protocol(5));
     }
-    if header.length < 4 {
+    if whole.header.length < 4 {
         return Err(Fault::frame_size());
     }
-    let (_, value) = octets.split_at(13);
     Ok(Frame::PriorityUpdate {
-        target: without_top_bit(number(&octets[9..13])),
-        value,
+        target: without_top_bit(number(&whole.octets[9..13])),
+        value: &whole.octets[13..],
         place: 13,
     })
 }

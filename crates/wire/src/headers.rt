@@ -1,6 +1,7 @@
 // The nine octets at the front of every frame.
-ghost use Rattle.std.specs.Prelude.{◌≡◌};
-ghost use Rattle.wire.specs.Frames.{header_of, AsLong, header_octets};
+ghost use Rattle.std.specs.Prelude.{◌≡◌, ◌+◌, ◌^◌, ◌<◌, length, IfOk};
+ghost use Rattle.std.specs.Result.{result_map_both};
+ghost use Rattle.wire.specs.Frames.{header_of, header_octets};
 
 use crate::Fault;
 use crate::numbers::{number, put_number, without_top_bit};
@@ -14,10 +15,21 @@ pub struct Header {
     pub stream: u32,
 }
 
+// Octets that are exactly one whole frame, with its header.
+#[derive(Clone, Copy)]
+pub(crate) struct Whole<'a> {
+    pub(crate) header: Header,
+    pub(crate) octets: &'a [u8],
+    // The header counts the octets behind it.
+    ghost whole: { 9 + header.length ≡ length octets.now },
+    // The header writes the length in three octets.
+    ghost short: { header.length < 2 ^ 24 },
+}
+
 // Reads the header of octets that are exactly one whole frame, of any length.
-pub(crate) fn read_header(octets: &[u8]) -> Result<Header, Fault>
-    ensures reads { result ≡ header_of octets.now }
-    ensures whole { AsLong octets.now result }
+pub(crate) fn read_header<'a>(octets: &'a [u8]) -> Result<Whole<'a>, Fault>
+    ensures reads { result_map_both (λ whole. whole.header) (λ fault. fault) result ≡ header_of octets.now }
+    ensures same { IfOk result (λ whole. whole.octets.now ≡ octets.now) }
 {
     if octets.len() < 9 {
         return Err(Fault::not_whole());
@@ -26,12 +38,13 @@ pub(crate) fn read_header(octets: &[u8]) -> Result<Header, Fault>
     if octets.len() != 9 + length as usize {
         return Err(Fault::not_whole());
     }
-    Ok(Header {
+    let header = Header {
         length,
         kind: octets[3],
         flags: octets[4],
         stream: without_top_bit(number(&octets[5..9])),
-    })
+    };
+    Ok(Whole { header, octets })
 }
 
 // Writes a header; the reserved bit of the stream id is written as 0.
