@@ -41,18 +41,14 @@ pub fn read_priority(value: &[u8]) -> Option<Priority>
     if value.len() > LONGEST {
         return None;
     }
-    let latest = values::read_latest(value)?;
-    Some(meant(latest))
+    values::read_latest(value).map(meant)
 }
 
 // The priority that a PRIORITY_UPDATE frame tells of its target; fault 8 where its value is unreadable.
 pub fn read_priority_update(target: u32, value: &[u8]) -> Result<Priority, Fault>
     ensures { result ≡ ok_or (value_of value.now) (unreadable_priority target) }
 {
-    match read_priority(value) {
-        Some(priority) => Ok(priority),
-        None => Err(Fault::unreadable_priority(target)),
-    }
+    read_priority(value).ok_or_else(|| Fault::unreadable_priority(target))
 }
 
 fn meant(latest: Latest) -> Priority
@@ -69,23 +65,13 @@ fn urgency_of(item: Option<Item>) -> Urgency
     ensures { result ≡ urgency_of item }
 {
     match item {
-        Some(Item::Integer(n)) => {
-            if n < 0 || n > 7 {
-                return Urgency::U3;
-            }
-            Urgency::try_from(n as u8).unwrap_or(Urgency::U3)
-        }
-        Some(Item::Boolean(_)) => Urgency::U3,
-        None => Urgency::U3,
+        Some(Item::Integer(n @ 0..=7)) => Urgency::try_from(n as u8).unwrap_or(Urgency::U3),
+        _ => Urgency::U3,
     }
 }
 
 fn is_true(item: Option<Item>) -> bool
     ensures { result ≡ is_true item }
 {
-    match item {
-        Some(Item::Boolean(b)) => b,
-        Some(Item::Integer(_)) => false,
-        None => false,
-    }
+    matches!(item, Some(Item::Boolean(true)))
 }

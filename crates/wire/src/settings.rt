@@ -32,10 +32,7 @@ impl<'a> Iterator for Pairs<'a> {
 
     // The next pair; none where fewer than six octets are left.
     fn next(&mut self) -> Option<Setting> {
-        if self.octets.len() < 6 {
-            return None;
-        }
-        let (pair, rest) = self.octets.split_at(6);
+        let (pair, rest) = self.octets.split_at_checked(6)?;
         let place = self.place;
         *self = Pairs {
             octets: rest,
