@@ -4,7 +4,6 @@ use Rattle.std.specs.List.{prefix_len}
 use Rattle.std.proofs.lemmas.Bool.{cond-true, cond-false, eqb-true, ne_eqb, leb-true, le-leb, and_parts, and_from, or_cases}
 use Rattle.std.proofs.lemmas.Bool.Decides.{nat_tests}
 use Rattle.std.proofs.lemmas.List.{take_at, drop_at}
-use Rattle.wire.specs.declared.priorities.values.Class.TheVariants.{Space, Blank}
 use Rattle.wire.specs.declared.priorities.Item.{Item}
 use Rattle.wire.specs.declared.priorities.Item.TheVariants.{Integer}
 use Rattle.wire.specs.declared.priorities.Latest.{Latest}
@@ -113,14 +112,14 @@ members-read zero l bs ms (more t w v cs m ns one b1 b2 others) le = absurd (ome
 members-read (suc n) l bs ms (last t w m one blanks) le =
     let next : Latest = noted l m.name m.item in
     let stop : Stops (get_or w 0 0) = subst (λ x. Stops (get_or x 0 0)) (append-nil w) (blank-stops w [] blanks (inl refl)) in
-    let none : past Blank w ≡ [] = ap (past Blank) (sym (append-nil w)) ∙ past_is is_blank w [] blanks refl in
+    let none : past is_blank w ≡ [] = ap (past is_blank) (sym (append-nil w)) ∙ past_is is_blank w [] blanks refl in
     one-read n l next (t ++ w) w (sym (member-read l t w m one stop)) ∙ ap (go_on (members_of n) next) none
 members-read (suc n) l bs ms (more t w v cs m ns one b1 b2 others) le =
     let next : Latest = noted l m.name m.item in
     let rest : List ℕ = 44 ∷ (v ++ cs) in
     let stop : Stops (get_or (w ++ rest) 0 0) = blank-stops w rest b1 (inr refl) in
-    let here : past Blank (w ++ rest) ≡ rest = past_is is_blank w rest b1 refl in
-    let further : past Blank (v ++ cs) ≡ cs = past_is is_blank v cs b2 (members-first cs ns others).0 in
+    let here : past is_blank (w ++ rest) ≡ rest = past_is is_blank w rest b1 refl in
+    let further : past is_blank (v ++ cs) ≡ cs = past_is is_blank v cs b2 (members-first cs ns others).0 in
     let long = length-append t (w ++ rest) in
     let longer = length-append w rest in
     let longest = length-append v cs in
@@ -140,10 +139,10 @@ from rest = cond (eqb (length rest) 0) (Some absent) (members_of (length rest) a
 
 pub complete : (bs : List ℕ) (ms : List Member) → Value bs ms → latest_in bs ≡ Some (gathered absent ms)
 complete bs ms (empty w spaces) =
-    let none : past Space w ≡ [] = ap (past Space) (sym (append-nil w)) ∙ past_is is_space w [] spaces refl in
+    let none : past is_space w ≡ [] = ap (past is_space) (sym (append-nil w)) ∙ past_is is_space w [] spaces refl in
     ap from none
 complete bs ms (some w cs ns spaces all) =
-    let rest : past Space (w ++ cs) ≡ cs = past_is is_space w cs spaces (members-first cs ns all).1 in
+    let rest : past is_space (w ++ cs) ≡ cs = past_is is_space w cs spaces (members-first cs ns all).1 in
     ap from rest
     ∙ cond-false _ (Some absent) _ (ne_eqb (length cs) 0 (λ x. omega (arith, members-some cs ns all)))
     ∙ members-read (length cs) absent cs ns all (omega arith)

@@ -4,7 +4,6 @@ use Rattle.std.specs.List.{prefix_len}
 use Rattle.std.proofs.lemmas.Bool.{eqb-true, leb-true, and_parts, cond_both}
 use Rattle.std.proofs.lemmas.List.Sums.{prefix_len-le-length}
 use Rattle.std.proofs.lemmas.List.{length-take-le, nil_from_length}
-use Rattle.wire.specs.declared.priorities.values.Class.TheVariants.{Space, Blank}
 use Rattle.wire.specs.declared.priorities.Item.{Item}
 use Rattle.wire.specs.declared.priorities.Item.TheVariants.{Boolean}
 use Rattle.wire.specs.declared.priorities.Latest.{Latest}
@@ -143,11 +142,11 @@ member-sound l bs r e =
 members-sound : (n : ℕ) (l q : Latest) (bs : List ℕ) → Some q ≡ members_of n l bs → (ms : List Member) × Members bs ms × (q ≡ gathered l ms)
 members-sound zero l q bs e = absurd (never q e)
 members-sound (suc n) l q bs e =
-    let t = by_both (member_at l bs) (λ next after. go_on (members_of n) next (past Blank after)) q e in
+    let t = by_both (member_at l bs) (λ next after. go_on (members_of n) next (past is_blank after)) q e in
     let m = member-sound l bs t.0 t.1 in
     let after = t.0.rest in
     let w = take (prefix_len is_blank after) after in
-    let rest = past Blank after in
+    let rest = past is_blank after in
     let whole : bs ≡ m.text ++ (w ++ rest) = m.split ∙ ap (λ x. m.text ++ x) (front-split is_blank after) in
     ⊎_elim
     (λ v.
@@ -160,18 +159,18 @@ members-sound (suc n) l q bs e =
     let u = by_first (eqb (get_or rest 0 0) 44) q _ v.1 in
     let tail = drop 1 rest in
     let gap = take (prefix_len is_blank tail) tail in
-    let again = members-sound n t.0.value q (past Blank tail) u.1 in
-    let comma : rest ≡ 44 ∷ (gap ++ past Blank tail) = headed rest 44 (omega arith) u.0 ∙ ap (λ x. 44 ∷ x) (front-split is_blank tail) in (
+    let again = members-sound n t.0.value q (past is_blank tail) u.1 in
+    let comma : rest ≡ 44 ∷ (gap ++ past is_blank tail) = headed rest 44 (omega arith) u.0 ∙ ap (λ x. 44 ∷ x) (front-split is_blank tail) in (
       m.member ∷ again.0,
       subst (λ x. Members x (m.member ∷ again.0)) (sym (whole ∙ ap (λ x. m.text ++ (w ++ x)) comma))
-          (more m.text w gap (past Blank tail) m.member again.0 m.spells (front is_blank after) (front is_blank tail) again.1),
+          (more m.text w gap (past is_blank tail) m.member again.0 m.spells (front is_blank after) (front is_blank tail) again.1),
       again.2 ∙ ap (λ x. gathered x again.0) m.is,
     ))
     (by-either (eqb (length rest) 0) q _ _ t.2)
 
 pub sound : (bs : List ℕ) (q : Latest) → Some q ≡ latest_in bs → (ms : List Member) × Value bs ms × (q ≡ gathered absent ms)
 sound bs q e =
-    let rest = past Space bs in
+    let rest = past is_space bs in
     ⊎_elim
     (λ v.
     let none : rest ≡ [] = nil_from_length rest (eqb-true (length rest) 0 v.0) in

@@ -2,24 +2,15 @@
 use Rattle.std.specs.Prelude.{ℕ, zero, suc, ◌+◌, Bool, true, false, cond, ◌&&◌, List, length, take, drop, ℤ, pos, neg_ℤ, Some, None, Option, ◌==◌, nat_le, slice_index}
 use Rattle.std.specs.Option.{option_map}
 use Rattle.std.specs.List.{prefix_len}
-use Rattle.wire.specs.declared.priorities.values.Class.{Class}
-use Rattle.wire.specs.declared.priorities.values.Class.TheVariants.{Space, Blank, KeyRest, Digit}
 use Rattle.wire.specs.declared.priorities.Item.{Item}
 use Rattle.wire.specs.declared.priorities.Item.TheVariants.{Boolean, Integer}
 use Rattle.wire.specs.declared.priorities.Latest.{Latest}
 use Rattle.wire.specs.declared.priorities.Priority.{Priority}
 use Rattle.wire.specs.Grammar.{is_space, is_blank, is_digit, starts_key, goes_on_key, decimal_of, is_named, priority_of}
 
--- the octets of a class
-abbrev pub in_class : Class → ℕ → Bool
-in_class Space b = is_space b
-in_class Blank b = is_blank b
-in_class KeyRest b = goes_on_key b
-in_class Digit b = is_digit b
-
--- what follows the octets of a class at the front
-abbrev pub past : Class → List ℕ → List ℕ
-past k bs = drop (prefix_len (in_class k) bs) bs
+-- what follows the octets at the front that pass a test
+abbrev pub past : (ℕ → Bool) → List ℕ → List ℕ
+past test bs = drop (prefix_len test bs) bs
 
 -- what was read at the front, and the octets behind it
 pub record Front (X : Type 0) : Type 0 where
@@ -82,15 +73,15 @@ member_at l bs = and_then (key_at bs) (after_key l)
 abbrev pub go_on : (Latest → List ℕ → Option Latest) → Latest → List ℕ → Option Latest
 go_on further l rest =
     cond (length rest == 0) (Some l)
-    (cond (slice_index rest 0 == 44) (further l (past Blank (drop 1 rest))) None)
+    (cond (slice_index rest 0 == 44) (further l (past is_blank (drop 1 rest))) None)
 
 abbrev pub members_of : ℕ → Latest → List ℕ → Option Latest
 members_of zero l bs = None
-members_of (suc n) l bs = and_then (member_at l bs) (λ next after. go_on (members_of n) next (past Blank after))
+members_of (suc n) l bs = and_then (member_at l bs) (λ next after. go_on (members_of n) next (past is_blank after))
 
 -- the latest members of a value
 abbrev pub latest_in : List ℕ → Option Latest
-latest_in bs = cond (length (past Space bs) == 0) (Some absent) (members_of (length (past Space bs)) absent (past Space bs))
+latest_in bs = cond (length (past is_space bs) == 0) (Some absent) (members_of (length (past is_space bs)) absent (past is_space bs))
 
 abbrev pub value_of : List ℕ → Option Priority
 value_of bs = cond (nat_le (length bs) 256) (option_map priority_of (latest_in bs)) None

@@ -24,7 +24,7 @@ pub enum Item {
 }
 
 // The latest members `u` and `i` of a value; an absent one is none.
-#[derive(Clone, Copy)]
+#[derive(Clone, Copy, Default)]
 pub struct Latest {
     pub u: Option<Item>,
     pub i: Option<Item>,

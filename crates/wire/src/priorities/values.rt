@@ -1,66 +1,67 @@
 // The members of a priority value, read from the front to the end.
-ghost use Rattle.std.specs.Prelude.{◌≡◌, ℕ, ◌+◌, ◌-◌, ◌*◌, ◌^◌, ◌<◌, ◌≤◌, min, Bool, true, false, length, take, is_some, if◌then◌else◌};
+ghost use Rattle.std.specs.Prelude.{◌≡◌, ℕ, ◌+◌, ◌^◌, ◌<◌, ◌≤◌, Bool, true, false, length, is_some, if◌then◌else◌};
 ghost use Rattle.std.specs.Option.{option_map};
 ghost use Rattle.std.specs.List.{prefix_len};
-ghost use Rattle.wire.specs.Grammar.{decimal_of, is_digit};
-ghost use Rattle.wire.specs.Values.{in_class, past, leaving, key_at, boolean_at, signed, integer_at, item_at, absent, noted, member_at, members_of, latest_in};
+ghost use Rattle.wire.specs.Grammar.{is_space, is_blank, is_digit, starts_key, goes_on_key, decimal_of};
+ghost use Rattle.wire.specs.Values.{past, leaving, key_at, boolean_at, signed, integer_at, item_at, absent, noted, member_at, members_of, latest_in};
 
 use crate::priorities::{Item, Latest};
-
-// The octets that the parts of a value are made of: spaces, spaces and tabs, what a key goes on with, digits.
-#[derive(Clone, Copy)]
-pub enum Class {
-    Space,
-    Blank,
-    KeyRest,
-    Digit,
-}
 
 // The most digits that an integer has.
 const DIGITS: usize = 15;
 
-fn is_in(class: Class, b: u8) -> bool
-    ensures { result ≡ in_class class b }
+fn is_space(b: u8) -> bool
+    ensures { result ≡ is_space b }
 {
-    match class {
-        Class::Space => b == b' ',
-        Class::Blank => b == b' ' || b == b'\t',
-        Class::KeyRest => (b >= b'a' && b <= b'z')
-            || (b >= b'0' && b <= b'9')
-            || b == b'_'
-            || b == b'-'
-            || b == b'.'
-            || b == b'*',
-        Class::Digit => b >= b'0' && b <= b'9',
-    }
+    b == b' '
 }
 
-// How many octets at the front are of the class.
-fn run(text: &[u8], class: Class) -> usize
+fn is_blank(b: u8) -> bool
+    ensures { result ≡ is_blank b }
+{
+    matches!(b, b' ' | b'\t')
+}
+
+fn is_digit(b: u8) -> bool
+    ensures { result ≡ is_digit b }
+{
+    b.is_ascii_digit()
+}
+
+fn starts_key(b: u8) -> bool
+    ensures { result ≡ starts_key b }
+{
+    matches!(b, b'a'..=b'z' | b'*')
+}
+
+fn goes_on_key(b: u8) -> bool
+    ensures { result ≡ goes_on_key b }
+{
+    matches!(b, b'a'..=b'z' | b'0'..=b'9' | b'_' | b'-' | b'.' | b'*')
+}
+
+// How many octets at the front pass the test.
+fn run<F: Fn(u8) -> bool>(text: &[u8], test: F) -> usize
+    ghost passes: { ℕ → Bool }
+    requires callable { F.IsAlwaysCallable test }
+    requires tests { (b : ℕ) (r : Bool) → F.post test b r → r ≡ passes b }
     ensures within { result ≤ length text.now }
-    ensures count { result ≡ prefix_len (in_class class) text.now }
+    ensures count { result ≡ prefix_len passes text.now }
 {
-    let mut n = 0;
-    while n < text.len() && is_in(class, text[n]) {
-        n += 1;
-    }
-    n
+    text.iter().take_while(|b| test(**b)).count()
 }
 
-// How many digits are at the front, counted up to one more than an integer has, and the number that they write.
-fn digits(text: &[u8]) -> (usize, u64)
-    ensures within { result.0 ≤ length text.now }
-    ensures count { result.0 ≡ min 16 (prefix_len is_digit text.now) }
-    ensures value { result.1 ≡ decimal_of (take result.0 text.now) }
-    ensures bound { result.1 < 10 ^ 16 }
+// The number that at most fifteen digits write.
+fn decimal(digits: &[u8]) -> u64
+    requires { length digits.now ≤ 15 }
+    ensures value { result ≡ decimal_of digits.now }
+    ensures bound { result < 10 ^ 17 }
 {
-    let mut n = 0;
     let mut number: u64 = 0;
-    while n < text.len() && n <= DIGITS && is_in(Class::Digit, text[n]) {
-        number = number * 10 + text[n].saturating_sub(b'0') as u64;
-        n += 1;
+    for digit in digits {
+        number = number * 10 + digit.saturating_sub(b'0') as u64;
     }
-    (n, number)
+    number
 }
 
 // What is still to be read of a value.
@@ -70,29 +71,26 @@ struct Reader<'a> {
 }
 
 impl<'a> Reader<'a> {
-    // Passes over what is of the class.
-    fn skip(&mut self, class: Class)
-        ensures rest { self.new.rest.now ≡ past class self.old.rest.now }
+    // Passes over what passes the test.
+    fn skip<F: Fn(u8) -> bool>(&mut self, test: F)
+        ghost passes: { ℕ → Bool }
+        requires callable { F.IsAlwaysCallable test }
+        requires tests { (b : ℕ) (r : Bool) → F.post test b r → r ≡ passes b }
+        ensures rest { self.new.rest.now ≡ past passes self.old.rest.now }
         ensures shorter { length self.new.rest.now ≤ length self.old.rest.now }
     {
-        let (_, after) = self.rest.split_at(run(self.rest, class));
-        self.rest = after;
+        self.rest = &self.rest[run(self.rest, test)..];
     }
 
     fn key(&mut self) -> Option<&'a [u8]>
         ensures reads { leaving (option_map (λ x. x.now) result) self.new.rest.now ≡ key_at self.old.rest.now }
         ensures shorter { length self.new.rest.now + (if is_some result then 1 else 0) ≤ length self.old.rest.now }
     {
-        let text = self.rest;
-        if text.len() == 0 {
+        let (first, tail) = self.rest.split_first()?;
+        if !starts_key(*first) {
             return None;
         }
-        let b = text[0];
-        if !((b >= b'a' && b <= b'z') || b == b'*') {
-            return None;
-        }
-        let (_, tail) = text.split_at(1);
-        let (key, after) = text.split_at(1 + run(tail, Class::KeyRest));
+        let (key, after) = self.rest.split_at(1 + run(tail, goes_on_key));
         self.rest = after;
         Some(key)
     }
@@ -101,13 +99,13 @@ impl<'a> Reader<'a> {
         ensures reads { leaving result self.new.rest.now ≡ integer_at negative self.old.rest.now }
         ensures shorter { length self.new.rest.now ≤ length self.old.rest.now }
     {
-        let (n, number) = digits(self.rest);
+        let n = run(self.rest, is_digit);
         if n < 1 || n > DIGITS {
             return None;
         }
-        let (_, after) = self.rest.split_at(n);
+        let (digits, after) = self.rest.split_at(n);
         self.rest = after;
-        let size = number as i64;
+        let size = decimal(digits) as i64;
         Some(Item::Integer(if negative { -size } else { size }))
     }
 
@@ -115,13 +113,9 @@ impl<'a> Reader<'a> {
         ensures reads { leaving result self.new.rest.now ≡ boolean_at self.old.rest.now }
         ensures shorter { length self.new.rest.now ≤ length self.old.rest.now }
     {
-        let text = self.rest;
-        if text.len() == 0 {
-            return None;
-        }
-        let (_, after) = text.split_at(1);
+        let (first, after) = self.rest.split_first()?;
         self.rest = after;
-        match text[0] {
+        match first {
             b'0' => Some(Item::Boolean(false)),
             b'1' => Some(Item::Boolean(true)),
             _ => None,
@@ -132,20 +126,17 @@ impl<'a> Reader<'a> {
         ensures reads { leaving result self.new.rest.now ≡ item_at self.old.rest.now }
         ensures shorter { length self.new.rest.now ≤ length self.old.rest.now }
     {
-        let text = self.rest;
-        if text.len() == 0 {
-            return None;
+        match self.rest {
+            [b'?', after @ ..] => {
+                self.rest = after;
+                self.boolean()
+            }
+            [b'-', after @ ..] => {
+                self.rest = after;
+                self.integer(true)
+            }
+            _ => self.integer(false),
         }
-        let (_, after) = text.split_at(1);
-        if text[0] == b'?' {
-            self.rest = after;
-            return self.boolean();
-        }
-        if text[0] == b'-' {
-            self.rest = after;
-            return self.integer(true);
-        }
-        self.integer(false)
     }
 
     fn member(&mut self, latest: Latest) -> Option<Latest>
@@ -153,13 +144,13 @@ impl<'a> Reader<'a> {
         ensures shorter { length self.new.rest.now + (if is_some result then 1 else 0) ≤ length self.old.rest.now }
     {
         let key = self.key()?;
-        let text = self.rest;
-        if text.len() == 0 || text[0] != b'=' {
-            return Some(note(latest, key, Item::Boolean(true)));
-        }
-        let (_, after) = text.split_at(1);
-        self.rest = after;
-        let item = self.item()?;
+        let item = match self.rest {
+            [b'=', after @ ..] => {
+                self.rest = after;
+                self.item()?
+            }
+            _ => Item::Boolean(true),
+        };
         Some(note(latest, key, item))
     }
 }
@@ -168,17 +159,14 @@ impl<'a> Reader<'a> {
 fn note(latest: Latest, key: &[u8], item: Item) -> Latest
     ensures { result ≡ noted latest key.now item }
 {
-    if key.len() != 1 {
-        return latest;
-    }
-    match key[0] {
-        b'u' => Latest {
+    match key {
+        b"u" => Latest {
             u: Some(item),
-            i: latest.i,
+            ..latest
         },
-        b'i' => Latest {
-            u: latest.u,
+        b"i" => Latest {
             i: Some(item),
+            ..latest
         },
         _ => latest,
     }
@@ -189,20 +177,16 @@ fn read_members(text: &[u8]) -> Option<Latest>
     ensures { result ≡ members_of (length text.now) absent text.now }
 {
     let mut reader = Reader { rest: text };
-    let mut latest = Latest { u: None, i: None };
+    let mut latest = Latest::default();
     loop {
         latest = reader.member(latest)?;
-        reader.skip(Class::Blank);
-        let rest = reader.rest;
-        if rest.len() == 0 {
-            return Some(latest);
+        reader.skip(is_blank);
+        match reader.rest {
+            [] => return Some(latest),
+            [b',', after @ ..] => reader.rest = after,
+            _ => return None,
         }
-        if rest[0] != b',' {
-            return None;
-        }
-        let (_, after) = rest.split_at(1);
-        reader.rest = after;
-        reader.skip(Class::Blank);
+        reader.skip(is_blank);
     }
 }
 
@@ -211,9 +195,9 @@ pub(crate) fn read_latest(value: &[u8]) -> Option<Latest>
     ensures { result ≡ latest_in value.now }
 {
     let mut reader = Reader { rest: value };
-    reader.skip(Class::Space);
-    if reader.rest.len() == 0 {
-        return Some(Latest { u: None, i: None });
+    reader.skip(is_space);
+    if reader.rest.is_empty() {
+        return Some(Latest::default());
     }
     read_members(reader.rest)
 }
