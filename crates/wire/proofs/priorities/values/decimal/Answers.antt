@@ -1,4 +1,4 @@
-use Rattle.std.proofs.Common.{◌≡◌, ◌-◌, get_or, arith, rules}
+use Rattle.std.proofs.Common.{arith, rules}
 use Rattle.wire.proofs.Decimals.{decimal-more, ten-more, ten-up-to}
 use Rattle.wire.proofs.priorities.values.decimal.Goals as goal
 
