@@ -1,5 +1,5 @@
 // DATA frames, written and read.
-ghost use Rattle.std.specs.Prelude.{◌≡◌, ℕ, ◌+◌, ◌^◌, ◌<◌, true, length, is_some, if◌then◌else◌};
+ghost use Rattle.std.specs.Prelude.{◌≡◌, ◌^◌, ◌<◌, true, length, is_some, if◌then◌else◌};
 ghost use Rattle.wire.specs.DataFrames.{told_data, data_of, encoded, put_at, written, ReadsBack};
 
 use crate::Fault;

@@ -1,19 +1,13 @@
 // DATA frames, written and read back.
+use crate::faults::{NOT_WHOLE, Told, told};
 use std::test::Fail;
-use wire::{Fault, read_data, write_data};
+use wire::{read_data, write_data};
 
 // The stream, the flag and the payload's length that octets tell as one DATA frame.
-fn said(octets: &[u8]) -> Result<(u32, bool, usize), Fault> {
-    let frame = read_data(octets)?;
+fn said(octets: &[u8]) -> Result<(u32, bool, usize), Told> {
+    let frame = read_data(octets).map_err(told)?;
     Ok((frame.stream, frame.end, frame.payload.len()))
 }
-
-const NOT_WHOLE: Fault = Fault {
-    number: 2,
-    code: 0,
-    stream: 0,
-    place: 0,
-};
 
 #[test]
 fn octets_written(rt: HostRuntime) {

@@ -1,8 +1,9 @@
 // Frames at the edge of every check.
+use crate::faults::{FRAME_SIZE, NOT_WHOLE, Told, WRONG_STREAM, told};
 use std::alloc::{AllocError, Global};
 use std::process::Abort;
 use std::test::Fail;
-use wire::{Fault, Frame, Setting, read_frame, split_frame};
+use wire::{Frame, Setting, read_frame, split_frame};
 
 // What a frame said, with a borrowed part by its length and place.
 #[derive(Clone, Copy, PartialEq, Debug)]
@@ -29,60 +30,36 @@ enum Said {
         kind: u8,
         stream: u32,
     },
-    Refused(Fault),
 }
 
-fn read(octets: &[u8]) -> Said {
-    match read_frame(octets) {
-        Ok(Frame::Settings(mut pairs)) => Said::Settings {
+fn read(octets: &[u8]) -> Result<Said, Told> {
+    let said = match read_frame(octets).map_err(told)? {
+        Frame::Settings(mut pairs) => Said::Settings {
             octets: octets.len().saturating_sub(9),
             first: pairs.next(),
         },
-        Ok(Frame::SettingsAck) => Said::SettingsAck,
-        Ok(Frame::WindowUpdate { stream, increment }) => Said::WindowUpdate { stream, increment },
-        Ok(Frame::ResetStream { stream, code }) => Said::ResetStream { stream, code },
-        Ok(
-            Frame::PriorityUpdate {
-                target,
-                value,
-                place,
-            },
-        ) => Said::PriorityUpdate {
+        Frame::SettingsAck => Said::SettingsAck,
+        Frame::WindowUpdate { stream, increment } => Said::WindowUpdate { stream, increment },
+        Frame::ResetStream { stream, code } => Said::ResetStream { stream, code },
+        Frame::PriorityUpdate {
+            target,
+            value,
+            place,
+        } => Said::PriorityUpdate {
             target,
             octets: value.len(),
             place,
         },
-        Ok(Frame::Other { kind, stream }) => Said::Other { kind, stream },
-        Err(fault) => Said::Refused(fault),
-    }
+        Frame::Other { kind, stream } => Said::Other { kind, stream },
+    };
+    Ok(said)
 }
-
-const NOT_WHOLE: Said = Said::Refused(Fault {
-    number: 2,
-    code: 0,
-    stream: 0,
-    place: 0,
-});
-
-const FRAME_SIZE: Said = Said::Refused(Fault {
-    number: 3,
-    code: 6,
-    stream: 0,
-    place: 0,
-});
-
-const WRONG_STREAM: Said = Said::Refused(Fault {
-    number: 4,
-    code: 1,
-    stream: 0,
-    place: 5,
-});
 
 // Octets, and what they say as one frame.
 #[derive(Clone, Copy)]
 struct Case {
     octets: &'static [u8],
-    said: Said,
+    said: Result<Said, Told>,
 }
 
 fn check_all(rt: &impl Abort, cases: &[Case]) {
@@ -98,43 +75,43 @@ fn whole_frames(rt: HostRuntime) {
         &[
             Case {
                 octets: b"",
-                said: NOT_WHOLE,
+                said: Err(NOT_WHOLE),
             },
             Case {
                 octets: b"\0\0\0\x06\0\0\0\0",
-                said: NOT_WHOLE,
+                said: Err(NOT_WHOLE),
             },
             Case {
                 octets: b"\0\0\0\x06\0\0\0\0\0",
-                said: Said::Other { kind: 6, stream: 0 },
+                said: Ok(Said::Other { kind: 6, stream: 0 }),
             },
             Case {
                 octets: b"\0\0\0\x06\0\0\0\0\0\0",
-                said: NOT_WHOLE,
+                said: Err(NOT_WHOLE),
             },
             Case {
                 octets: b"\0\0\x02\x06\0\0\0\0\0\x01",
-                said: NOT_WHOLE,
+                said: Err(NOT_WHOLE),
             },
             Case {
                 octets: b"\0\0\x02\x06\0\0\0\0\0\x01\x02",
-                said: Said::Other { kind: 6, stream: 0 },
+                said: Ok(Said::Other { kind: 6, stream: 0 }),
             },
             Case {
                 octets: b"\0\0\x02\x06\0\0\0\0\0\x01\x02\x03",
-                said: NOT_WHOLE,
+                said: Err(NOT_WHOLE),
             },
             Case {
                 octets: b"\0\x01\0\x06\0\0\0\0\0\x01",
-                said: NOT_WHOLE,
+                said: Err(NOT_WHOLE),
             },
             Case {
                 octets: b"\x01\0\0\x06\0\0\0\0\0\x01",
-                said: NOT_WHOLE,
+                said: Err(NOT_WHOLE),
             },
             Case {
                 octets: b"\xff\xff\xff\x06\0\0\0\0\0",
-                said: NOT_WHOLE,
+                said: Err(NOT_WHOLE),
             },
         ],
     );
@@ -147,32 +124,32 @@ fn other_types(rt: HostRuntime) {
         &[
             Case {
                 octets: b"\0\0\x01\0\x01\0\0\0\x01a",
-                said: Said::Other { kind: 0, stream: 1 },
+                said: Ok(Said::Other { kind: 0, stream: 1 }),
             },
             Case {
                 octets: b"\0\0\0\x01\x04\0\0\0\x03",
-                said: Said::Other { kind: 1, stream: 3 },
+                said: Ok(Said::Other { kind: 1, stream: 3 }),
             },
             Case {
                 octets: b"\0\0\0\xff\xff\x80\0\0\x05",
-                said: Said::Other {
+                said: Ok(Said::Other {
                     kind: 255,
                     stream: 5,
-                },
+                }),
             },
             Case {
                 octets: b"\0\0\0\x07\0\xff\xff\xff\xff",
-                said: Said::Other {
+                said: Ok(Said::Other {
                     kind: 7,
                     stream: 2147483647,
-                },
+                }),
             },
             Case {
                 octets: b"\0\0\0\x11\0\x01\x02\x03\x04",
-                said: Said::Other {
+                said: Ok(Said::Other {
                     kind: 17,
                     stream: 16909060,
-                },
+                }),
             },
         ],
     );
@@ -190,54 +167,54 @@ fn settings_frames(rt: HostRuntime) {
         &[
             Case {
                 octets: b"\0\0\0\x04\0\0\0\0\0",
-                said: Said::Settings {
+                said: Ok(Said::Settings {
                     octets: 0,
                     first: None,
-                },
+                }),
             },
             Case {
                 octets: b"\0\0\x06\x04\0\0\0\0\0\x01\x02\x03\x04\x05\x06",
-                said: Said::Settings { octets: 6, first },
+                said: Ok(Said::Settings { octets: 6, first }),
             },
             Case {
                 octets: b"\0\0\x06\x04\xfe\x80\0\0\0\x01\x02\x03\x04\x05\x06",
-                said: Said::Settings { octets: 6, first },
+                said: Ok(Said::Settings { octets: 6, first }),
             },
             Case {
                 octets: b"\0\0\x05\x04\0\0\0\0\0\x01\x02\x03\x04\x05",
-                said: FRAME_SIZE,
+                said: Err(FRAME_SIZE),
             },
             Case {
                 octets: b"\0\0\x07\x04\0\0\0\0\0\x01\x02\x03\x04\x05\x06\x07",
-                said: FRAME_SIZE,
+                said: Err(FRAME_SIZE),
             },
             Case {
                 octets: b"\0\0\0\x04\x01\0\0\0\0",
-                said: Said::SettingsAck,
+                said: Ok(Said::SettingsAck),
             },
             Case {
                 octets: b"\0\0\0\x04\xff\x80\0\0\0",
-                said: Said::SettingsAck,
+                said: Ok(Said::SettingsAck),
             },
             Case {
                 octets: b"\0\0\x06\x04\x01\0\0\0\0\x01\x02\x03\x04\x05\x06",
-                said: FRAME_SIZE,
+                said: Err(FRAME_SIZE),
             },
             Case {
                 octets: b"\0\0\x01\x04\x01\0\0\0\0\x01",
-                said: FRAME_SIZE,
+                said: Err(FRAME_SIZE),
             },
             Case {
                 octets: b"\0\0\0\x04\0\0\0\0\x01",
-                said: WRONG_STREAM,
+                said: Err(WRONG_STREAM),
             },
             Case {
                 octets: b"\0\0\0\x04\x01\0\0\0\x01",
-                said: WRONG_STREAM,
+                said: Err(WRONG_STREAM),
             },
             Case {
                 octets: b"\0\0\x01\x04\0\0\0\0\x03\x01",
-                said: WRONG_STREAM,
+                said: Err(WRONG_STREAM),
             },
         ],
     );
@@ -250,62 +227,62 @@ fn window_updates_and_resets(rt: HostRuntime) {
         &[
             Case {
                 octets: b"\0\0\x04\x08\0\0\0\0\0\0\0\0\x01",
-                said: Said::WindowUpdate {
+                said: Ok(Said::WindowUpdate {
                     stream: 0,
                     increment: 1,
-                },
+                }),
             },
             Case {
                 octets: b"\0\0\x04\x08\xff\x80\0\0\x07\x80\0\0\x01",
-                said: Said::WindowUpdate {
+                said: Ok(Said::WindowUpdate {
                     stream: 7,
                     increment: 1,
-                },
+                }),
             },
             Case {
                 octets: b"\0\0\x04\x08\0\0\0\0\x01\x80\0\0\0",
-                said: Said::WindowUpdate {
+                said: Ok(Said::WindowUpdate {
                     stream: 1,
                     increment: 0,
-                },
+                }),
             },
             Case {
                 octets: b"\0\0\x04\x08\0\0\0\0\x01\xff\xff\xff\xff",
-                said: Said::WindowUpdate {
+                said: Ok(Said::WindowUpdate {
                     stream: 1,
                     increment: 2147483647,
-                },
+                }),
             },
             Case {
                 octets: b"\0\0\x03\x08\0\0\0\0\x01\0\0\0",
-                said: FRAME_SIZE,
+                said: Err(FRAME_SIZE),
             },
             Case {
                 octets: b"\0\0\x05\x08\0\0\0\0\x01\0\0\0\0\0",
-                said: FRAME_SIZE,
+                said: Err(FRAME_SIZE),
             },
             Case {
                 octets: b"\0\0\0\x08\0\0\0\0\x01",
-                said: FRAME_SIZE,
+                said: Err(FRAME_SIZE),
             },
             Case {
                 octets: b"\0\0\x04\x03\0\0\0\0\x01\0\0\0\x08",
-                said: Said::ResetStream { stream: 1, code: 8 },
+                said: Ok(Said::ResetStream { stream: 1, code: 8 }),
             },
             Case {
                 octets: b"\0\0\x04\x03\0\0\0\0\0\xff\xff\xff\xff",
-                said: Said::ResetStream {
+                said: Ok(Said::ResetStream {
                     stream: 0,
                     code: 4294967295,
-                },
+                }),
             },
             Case {
                 octets: b"\0\0\x03\x03\0\0\0\0\x01\0\0\0",
-                said: FRAME_SIZE,
+                said: Err(FRAME_SIZE),
             },
             Case {
                 octets: b"\0\0\x05\x03\0\0\0\0\x01\0\0\0\0\0",
-                said: FRAME_SIZE,
+                said: Err(FRAME_SIZE),
             },
         ],
     );
@@ -318,43 +295,43 @@ fn priority_updates(rt: HostRuntime) {
         &[
             Case {
                 octets: b"\0\0\x04\x10\0\0\0\0\0\0\0\0\x01",
-                said: Said::PriorityUpdate {
+                said: Ok(Said::PriorityUpdate {
                     target: 1,
                     octets: 0,
                     place: 13,
-                },
+                }),
             },
             Case {
                 octets: b"\0\0\x07\x10\0\x80\0\0\0\x80\0\0\x03u=1",
-                said: Said::PriorityUpdate {
+                said: Ok(Said::PriorityUpdate {
                     target: 3,
                     octets: 3,
                     place: 13,
-                },
+                }),
             },
             Case {
                 octets: b"\0\0\x05\x10\0\0\0\0\0\0\0\0\0,",
-                said: Said::PriorityUpdate {
+                said: Ok(Said::PriorityUpdate {
                     target: 0,
                     octets: 1,
                     place: 13,
-                },
+                }),
             },
             Case {
                 octets: b"\0\0\x03\x10\0\0\0\0\0\0\0\0",
-                said: FRAME_SIZE,
+                said: Err(FRAME_SIZE),
             },
             Case {
                 octets: b"\0\0\0\x10\0\0\0\0\0",
-                said: FRAME_SIZE,
+                said: Err(FRAME_SIZE),
             },
             Case {
                 octets: b"\0\0\x04\x10\0\0\0\0\x01\0\0\0\x01",
-                said: WRONG_STREAM,
+                said: Err(WRONG_STREAM),
             },
             Case {
                 octets: b"\0\0\x03\x10\0\0\0\0\x01\0\0\0",
-                said: WRONG_STREAM,
+                said: Err(WRONG_STREAM),
             },
         ],
     );
@@ -364,9 +341,7 @@ fn priority_updates(rt: HostRuntime) {
 fn zeros(heap: Global, length: u32, kind: u8) -> Result<Vec<u8>, AllocError> {
     let [_, high, middle, low] = length.to_be_bytes();
     let mut octets = vec![in heap; high, middle, low, kind, 0, 0, 0, 0, 0]?;
-    for _ in 0..length {
-        octets.push(0)?;
-    }
+    octets.resize(9 + length as usize, 0)?;
     Ok(octets)
 }
 
@@ -375,11 +350,11 @@ fn longest_frames(rt: HostRuntime) -> Result<(), Fail> {
     for kind in [0u8, 1, 6, 9, 255] {
         assert_eq!(rt;
             read(zeros(rt.alloc(), 16384, kind)?.as_slice()),
-            Said::Other { kind, stream: 0 }
+            Ok(Said::Other { kind, stream: 0 })
         );
         assert_eq!(rt;
             read(zeros(rt.alloc(), 16385, kind)?.as_slice()),
-            FRAME_SIZE
+            Err(FRAME_SIZE)
         );
     }
     let empty = Some(Setting {
@@ -389,29 +364,44 @@ fn longest_frames(rt: HostRuntime) -> Result<(), Fail> {
     });
     assert_eq!(rt;
         read(zeros(rt.alloc(), 16380, 4)?.as_slice()),
-        Said::Settings {
+        Ok(Said::Settings {
             octets: 16380,
             first: empty,
-        }
+        })
     );
-    assert_eq!(rt; read(zeros(rt.alloc(), 16384, 4)?.as_slice()), FRAME_SIZE);
-    assert_eq!(rt; read(zeros(rt.alloc(), 16386, 4)?.as_slice()), FRAME_SIZE);
+    assert_eq!(rt;
+        read(zeros(rt.alloc(), 16384, 4)?.as_slice()),
+        Err(FRAME_SIZE)
+    );
+    assert_eq!(rt;
+        read(zeros(rt.alloc(), 16386, 4)?.as_slice()),
+        Err(FRAME_SIZE)
+    );
     assert_eq!(rt;
         read(zeros(rt.alloc(), 16384, 16)?.as_slice()),
-        Said::PriorityUpdate {
+        Ok(Said::PriorityUpdate {
             target: 0,
             octets: 16380,
             place: 13,
-        }
+        })
     );
-    assert_eq!(rt; read(zeros(rt.alloc(), 16385, 16)?.as_slice()), FRAME_SIZE);
-    assert_eq!(rt; read(zeros(rt.alloc(), 65536, 8)?.as_slice()), FRAME_SIZE);
+    assert_eq!(rt;
+        read(zeros(rt.alloc(), 16385, 16)?.as_slice()),
+        Err(FRAME_SIZE)
+    );
+    assert_eq!(rt;
+        read(zeros(rt.alloc(), 65536, 8)?.as_slice()),
+        Err(FRAME_SIZE)
+    );
     Ok(())
 }
 
 #[test]
-fn settings_in_order(rt: HostRuntime) {
+fn settings_in_order(rt: HostRuntime) -> Result<(), Fail> {
     let octets = b"\0\0\x12\x04\0\0\0\0\0\0\x04\0\0\xff\xff\0\x05\0\x01\0\0\0\x04\0\0\0\x05";
+    let Ok(Frame::Settings(pairs)) = read_frame(octets) else {
+        panic!(rt; "no settings");
+    };
     let expected = [
         Setting {
             identifier: 4,
@@ -429,14 +419,11 @@ fn settings_in_order(rt: HostRuntime) {
             place: 23,
         },
     ];
-    let mut seen = 0usize;
-    if let Ok(Frame::Settings(pairs)) = read_frame(octets) {
-        for (setting, wanted) in pairs.zip(expected.iter()) {
-            assert_eq!(rt; setting, *wanted);
-            seen = seen.saturating_add(1);
-        }
-    }
-    assert_eq!(rt; seen, 3);
+    assert_eq!(rt;
+        pairs.collect::<Vec<Setting>>(rt.alloc())?.as_slice(),
+        expected.as_slice()
+    );
+    Ok(())
 }
 
 #[test]

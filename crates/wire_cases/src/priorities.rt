@@ -20,10 +20,7 @@ const fn told(value: &'static [u8], urgency: u8, incremental: bool) -> Readable 
 
 // A value's urgency and flag; none where it is unreadable.
 fn answer(value: &[u8]) -> Option<(u8, bool)> {
-    match read_priority(value) {
-        Some(priority) => Some((priority.urgency.number(), priority.incremental)),
-        None => None,
-    }
+    read_priority(value).map(|priority| (priority.urgency.number(), priority.incremental))
 }
 
 fn check_readable(rt: &impl Abort, cases: &[Readable]) {
@@ -202,26 +199,13 @@ fn other_structured_fields(rt: HostRuntime) {
     );
 }
 
-// A value of the length that is all spaces but for its end.
-fn padded(memory: &mut [u8]) {
-    for octet in memory.iter_mut() {
-        *octet = b' ';
-    }
-    let n = memory.len();
-    if n > 2 {
-        memory[n - 3] = b'u';
-        memory[n - 2] = b'=';
-        memory[n - 1] = b'1';
-    }
-}
-
 #[test]
 fn longest_values(rt: HostRuntime) {
-    let mut longest = [0; 256];
-    padded(&mut longest);
+    let mut longest = [b' '; 256];
+    longest[253..].copy_from_slice(b"u=1");
     assert_eq!(rt; answer(&longest), Some((1, false)));
-    let mut longer = [0; 257];
-    padded(&mut longer);
+    let mut longer = [b' '; 257];
+    longer[254..].copy_from_slice(b"u=1");
     assert_eq!(rt; answer(&longer), None);
     assert_eq!(rt; answer(&[b' '; 256]), Some((3, false)));
     assert_eq!(rt; answer(&[b' '; 257]), None);

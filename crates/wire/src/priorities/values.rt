@@ -1,9 +1,9 @@
 // The members of a priority value, read from the front to the end.
-ghost use Rattle.std.specs.Prelude.{◌≡◌, ℕ, ◌+◌, ◌^◌, ◌<◌, ◌≤◌, Bool, true, false, length, is_some, if◌then◌else◌};
+ghost use Rattle.std.specs.Prelude.{◌≡◌, ℕ, ◌+◌, ◌^◌, ◌<◌, ◌≤◌, Bool, length, is_some, if◌then◌else◌};
 ghost use Rattle.std.specs.Option.{option_map};
 ghost use Rattle.std.specs.List.{prefix_len};
 ghost use Rattle.wire.specs.Grammar.{is_space, is_blank, is_digit, starts_key, goes_on_key, decimal_of};
-ghost use Rattle.wire.specs.Values.{past, leaving, key_at, boolean_at, signed, integer_at, item_at, absent, noted, member_at, members_of, latest_in};
+ghost use Rattle.wire.specs.Values.{past, leaving, key_at, boolean_at, integer_at, item_at, absent, noted, member_at, members_of, latest_in};
 
 use crate::priorities::{Item, Latest};
 
@@ -100,7 +100,7 @@ impl<'a> Reader<'a> {
         ensures shorter { length self.new.rest.now ≤ length self.old.rest.now }
     {
         let n = run(self.rest, is_digit);
-        if n < 1 || n > DIGITS {
+        if !(1..=DIGITS).contains(&n) {
             return None;
         }
         let (digits, after) = self.rest.split_at(n);
