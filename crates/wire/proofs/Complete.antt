@@ -113,7 +113,7 @@ members-read (suc n) l bs ms (last t w m one blanks) le =
     let next : Latest = noted l m.name m.item in
     let stop : Stops (get_or w 0 0) = subst (λ x. Stops (get_or x 0 0)) (append-nil w) (blank-stops w [] blanks (inl refl)) in
     let none : past is_blank w ≡ [] = ap (past is_blank) (sym (append-nil w)) ∙ past_is is_blank w [] blanks refl in
-    one-read n l next (t ++ w) w (sym (member-read l t w m one stop)) ∙ ap (go_on (members_of n) next) none
+    one-read n (suc n) l next (t ++ w) w refl (sym (member-read l t w m one stop)) ∙ ap (go_on (members_of n) next) none
 members-read (suc n) l bs ms (more t w v cs m ns one b1 b2 others) le =
     let next : Latest = noted l m.name m.item in
     let rest : List ℕ = 44 ∷ (v ++ cs) in
@@ -123,7 +123,7 @@ members-read (suc n) l bs ms (more t w v cs m ns one b1 b2 others) le =
     let long = length-append t (w ++ rest) in
     let longer = length-append w rest in
     let longest = length-append v cs in
-    one-read n l next (t ++ (w ++ rest)) (w ++ rest) (sym (member-read l t (w ++ rest) m one stop))
+    one-read n (suc n) l next (t ++ (w ++ rest)) (w ++ rest) refl (sym (member-read l t (w ++ rest) m one stop))
     ∙ ap (go_on (members_of n) next) here
     ∙ cond-false _ (Some next) _ (ne_eqb (length rest) 0 (λ x. omega arith))
     ∙ ap (members_of n next) further

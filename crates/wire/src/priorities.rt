@@ -34,6 +34,7 @@ pub struct Latest {
 const LONGEST: usize = 256;
 
 // The priority that a value tells; none where it is unreadable.
+#[tactic(auto, using(crate::proofs::Readings::reads))]
 pub fn read_priority(value: &[u8]) -> Option<Priority>
     ensures value { result ≡ value_of value.now }
     ensures grammar { Reads value.now result }
