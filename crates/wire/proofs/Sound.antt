@@ -2,6 +2,7 @@
 use Rattle.std.proofs.Common.{◌≡◌, ℕ, zero, suc, ◌+◌, ◌<◌, ◌≤◌, Bool, true, false, cond, ◌&&◌, eqb, leb, ◌⊎◌, List, [], ◌∷◌, ◌++◌, length, get_or, take, drop, Some, None, Option, sym, refl, ap, ◌∙◌, subst, inl, inr, ⊎_elim, append_assoc, append-nil, one-add, arith, take-append-drop}
 use Rattle.std.specs.List.{prefix_len}
 use Rattle.std.proofs.lemmas.Bool.{eqb-true, leb-true, and_parts, cond_both}
+use Rattle.std.proofs.lemmas.Option.{same_Some}
 use Rattle.std.proofs.lemmas.List.Sums.{prefix_len-le-length}
 use Rattle.std.proofs.lemmas.List.{length-take-le, nil_from_length}
 use Rattle.wire.specs.declared.priorities.Item.{Item}
@@ -21,19 +22,10 @@ front test (b ∷ bs) =
 front-split : (test : ℕ → Bool) (bs : List ℕ) → bs ≡ take (prefix_len test bs) bs ++ drop (prefix_len test bs) bs
 front-split test bs = sym (take-append-drop (prefix_len test bs) bs)
 
-some_is : {X : Type 0} (x y : X) → Some x ≡ Some y → x ≡ y
-some_is x y e = cc
-
-never : {X : Type 0} (x : X) → Some x ≡ None → ⊥
-never x e = let z : ◌≡◌ {A = ℕ} 0 1 = cc in omega arith
-
-wrong : false ≡ true → ⊥
-wrong e = let z : ◌≡◌ {A = ℕ} 0 1 = cc in omega arith
-
 -- which way a test went that led to an answer
-by_first : {X : Type 0} (b : Bool) (x : X) (o : Option X) → Some x ≡ cond b o None → (b ≡ true) × (Some x ≡ o)
+pub by_first : {X : Type 0} (b : Bool) (x : X) (o : Option X) → Some x ≡ cond b o None → (b ≡ true) × (Some x ≡ o)
 by_first true x o e = (refl, e)
-by_first false x o e = absurd (never x e)
+by_first false x o e = cc
 
 by-either : {X : Type 0} (b : Bool) (x : X) (o u : Option X) → Some x ≡ cond b o u → ((b ≡ true) × (Some x ≡ o)) ⊎ ((b ≡ false) × (Some x ≡ u))
 by-either true x o u e = inl (refl, e)
@@ -42,7 +34,7 @@ by-either false x o u e = inr (refl, e)
 -- what led to an answer of two readers in a row
 by_both : {X Y : Type 0} (o : Option (Front X)) (next : X → List ℕ → Option Y) (y : Y) → Some y ≡ and_then o next
     → (r : Front X) × (Some r ≡ o) × (Some y ≡ next r.value r.rest)
-by_both None next y e = absurd (never y e)
+by_both None next y e = cc
 by_both (Some r) next y e = (r, refl, e)
 
 headed : (bs : List ℕ) (n : ℕ) → 0 < n → eqb (get_or bs 0 0) n ≡ true → bs ≡ n ∷ drop 1 bs
@@ -50,7 +42,7 @@ headed [] n h e = absurd (omega (arith, eqb-true 0 n e))
 headed (b ∷ bs) n h e = ap (λ x. x ∷ bs) (eqb-true b n e)
 
 key-sound : (bs : List ℕ) → starts_key (get_or bs 0 0) ≡ true → Key (take (key_length bs) bs)
-key-sound [] e = absurd (wrong e)
+key-sound [] e = cc
 key-sound (b ∷ bs) e = rw one-add (key b (take (prefix_len goes_on_key bs) bs) e (front goes_on_key bs))
 
 -- an item at the front, and what is left
@@ -70,24 +62,24 @@ digits-sound bs e =
 plus-sound : (bs : List ℕ) (r : Front Item) → Some r ≡ integer_at false bs → ItemRead bs r
 plus-sound bs r e =
     let w = by_first (leb 1 (digit_count bs) && leb (digit_count bs) 15) r _ e in
-    subst (ItemRead bs) (sym (some_is _ _ w.1))
+    subst (ItemRead bs) (sym (same_Some _ _ w.1))
     (record { text = take (digit_count bs) bs; split = front-split is_digit bs; spells = plus (take (digit_count bs) bs) (digits-sound bs w.0) })
 
 minus-sound : (bs : List ℕ) (r : Front Item) → Some r ≡ integer_at true bs → ItemRead (45 ∷ bs) r
 minus-sound bs r e =
     let w = by_first (leb 1 (digit_count bs) && leb (digit_count bs) 15) r _ e in
-    subst (ItemRead (45 ∷ bs)) (sym (some_is _ _ w.1))
+    subst (ItemRead (45 ∷ bs)) (sym (same_Some _ _ w.1))
     (record { text = 45 ∷ take (digit_count bs) bs; split = ap (λ x. 45 ∷ x) (front-split is_digit bs); spells = minus (take (digit_count bs) bs) (digits-sound bs w.0) })
 
 boolean-sound : (bs : List ℕ) (r : Front Item) → Some r ≡ boolean_at bs → ItemRead (63 ∷ bs) r
 boolean-sound bs r e =
     ⊎_elim
     (λ w.
-    subst (ItemRead (63 ∷ bs)) (sym (some_is _ _ w.1))
+    subst (ItemRead (63 ∷ bs)) (sym (same_Some _ _ w.1))
     (record { text = 63 ∷ 48 ∷ []; split = ap (λ x. 63 ∷ x) (headed bs 48 (omega arith) w.0); spells = off }))
     (λ w.
     let v = by_first (eqb (get_or bs 0 0) 49) r _ w.1 in
-    subst (ItemRead (63 ∷ bs)) (sym (some_is _ _ v.1))
+    subst (ItemRead (63 ∷ bs)) (sym (same_Some _ _ v.1))
     (record { text = 63 ∷ 49 ∷ []; split = ap (λ x. 63 ∷ x) (headed bs 49 (omega arith) v.0); spells = on }))
     (by-either (eqb (get_or bs 0 0) 48) r _ _ e)
 
@@ -116,7 +108,7 @@ after-key l k bs r is_key e =
     (λ v.
     let j = by_both (item_at (drop 1 bs)) (λ item rest. Some (record { value = noted l k item; rest = rest })) r v.1 in
     let i = item-sound (drop 1 bs) j.0 j.1 in
-    subst (MemberRead l (k ++ bs)) (sym (some_is _ _ j.2))
+    subst (MemberRead l (k ++ bs)) (sym (same_Some _ _ j.2))
     (record {
       text = k ++ (61 ∷ i.text);
       member = record { name = k; item = j.0.value };
@@ -125,7 +117,7 @@ after-key l k bs r is_key e =
       spells = full k i.text j.0.value is_key i.spells;
     }))
     (λ v.
-    subst (MemberRead l (k ++ bs)) (sym (some_is _ _ v.1))
+    subst (MemberRead l (k ++ bs)) (sym (same_Some _ _ v.1))
     (record { text = k; member = record { name = k; item = Boolean true }; split = refl; is = refl; spells = bare k is_key }))
     (by-either (eqb (get_or bs 0 0) 61) r _ _ e)
 
@@ -135,12 +127,12 @@ member-sound l bs r e =
     let w = by_first (starts_key (get_or bs 0 0)) j.0 _ j.1 in
     let k = take (key_length bs) bs in
     let rest = drop (key_length bs) bs in
-    let is : j.0 ≡ record { value = k; rest = rest } = some_is _ _ w.1 in
+    let is : j.0 ≡ record { value = k; rest = rest } = same_Some _ _ w.1 in
     let next : Some r ≡ after_key l k rest = j.2 ∙ ap (λ f. after_key l f.value f.rest) is in
     subst (λ x. MemberRead l x r) (take-append-drop (key_length bs) bs) (after-key l k rest r (key-sound bs w.0) next)
 
 members-sound : (n : ℕ) (l q : Latest) (bs : List ℕ) → Some q ≡ members_of n l bs → (ms : List Member) × Members bs ms × (q ≡ gathered l ms)
-members-sound zero l q bs e = absurd (never q e)
+members-sound zero l q bs e = cc
 members-sound (suc n) l q bs e =
     let t = by_both (member_at l bs) (λ next after. go_on (members_of n) next (past is_blank after)) q e in
     let m = member-sound l bs t.0 t.1 in
@@ -153,7 +145,7 @@ members-sound (suc n) l q bs e =
     let none : rest ≡ [] = nil_from_length rest (eqb-true (length rest) 0 v.0) in (
       m.member ∷ [],
       subst (λ x. Members x (m.member ∷ [])) (sym (whole ∙ ap (λ x. m.text ++ (w ++ x)) none ∙ ap (λ x. m.text ++ x) (append-nil w))) (last m.text w m.member m.spells (front is_blank after)),
-      some_is _ _ v.1 ∙ m.is,
+      same_Some _ _ v.1 ∙ m.is,
     ))
     (λ v.
     let u = by_first (eqb (get_or rest 0 0) 44) q _ v.1 in
@@ -175,7 +167,7 @@ sound bs q e =
     (λ v.
     let none : rest ≡ [] = nil_from_length rest (eqb-true (length rest) 0 v.0) in
     let all : bs ≡ take (prefix_len is_space bs) bs = front-split is_space bs ∙ ap (λ x. take (prefix_len is_space bs) bs ++ x) none ∙ append-nil _ in
-    ([], subst (λ x. Value x []) (sym all) (empty _ (front is_space bs)), some_is _ _ v.1))
+    ([], subst (λ x. Value x []) (sym all) (empty _ (front is_space bs)), same_Some _ _ v.1))
     (λ v.
     let m = members-sound (length rest) absent q rest v.1 in
     (m.0, subst (λ x. Value x m.0) (sym (front-split is_space bs)) (some _ rest m.0 (front is_space bs) m.1), m.2))
