@@ -1,7 +1,7 @@
 -- Whatever the grammar derives is read.
-use Rattle.std.proofs.Common.{◌≡◌, ℕ, zero, suc, ◌<◌, ◌≤◌, Bool, true, false, cond, ◌&&◌, eqb, leb, ◌⊎◌, List, [], ◌∷◌, ◌++◌, length, get_or, take, drop, Some, Option, sym, refl, ap, ◌∙◌, subst, inl, inr, ⊎_elim, append_assoc, append-nil, one-add, arith, length-append}
+use Rattle.std.proofs.Common.{◌≡◌, ℕ, zero, suc, ◌<◌, ◌≤◌, Bool, true, false, cond, ◌&&◌, eqb, leb, ◌⊎◌, List, [], ◌∷◌, ◌++◌, length, get_or, take, drop, Some, Option, sym, refl, ap, ◌∙◌, subst, inl, inr, append_assoc, append-nil, one-add, arith, length-append}
 use Rattle.std.specs.List.{prefix_len}
-use Rattle.std.proofs.lemmas.Bool.{cond-true, cond-false, eqb-true, ne_eqb, leb-true, le-leb, and_parts, and_from, or_cases}
+use Rattle.std.proofs.lemmas.Bool.{cond-true, cond-false, ne_eqb}
 use Rattle.std.proofs.lemmas.Bool.Decides.{nat_tests}
 use Rattle.std.proofs.lemmas.List.{take_at, drop_at}
 use Rattle.wire.specs.declared.priorities.Item.{Item}
@@ -31,9 +31,7 @@ digits-read negative ds rest d e =
     let n : digit_count (ds ++ rest) ≡ length ds = run_is is_digit ds rest d.each e in
     let front : take (digit_count (ds ++ rest)) (ds ++ rest) ≡ ds = take_at ds rest _ (sym n) in
     let back : drop (digit_count (ds ++ rest)) (ds ++ rest) ≡ rest = drop_at ds rest _ (sym n) in
-    let low : 1 ≤ digit_count (ds ++ rest) = subst (λ k. 1 ≤ k) (sym n) d.some in
-    let high : digit_count (ds ++ rest) ≤ 15 = subst (λ k. k ≤ 15) (sym n) d.few in
-    let ok : (leb 1 (digit_count (ds ++ rest)) && leb (digit_count (ds ++ rest)) 15) ≡ true = and_from _ _ (le-leb 1 (digit_count (ds ++ rest)) low) (le-leb (digit_count (ds ++ rest)) 15 high) in
+    let ok : (leb 1 (digit_count (ds ++ rest)) && leb (digit_count (ds ++ rest)) 15) ≡ true = let some = d.some in let few = d.few in grind (arith, nat_tests) in
     cond-true _ _ _ ok ∙ (λ i. Some (record { value = Integer (signed negative (decimal_of (front i))); rest = back i }))
 
 first-digit : (ds rest : List ℕ) → Digits ds → is_digit (get_or (ds ++ rest) 0 0) ≡ true
@@ -42,11 +40,7 @@ first-digit (b ∷ ds) rest d = d.each.0
 
 -- a digit is neither "?" nor "-"
 other-first : (d : ℕ) → is_digit d ≡ true → (eqb d 63 ≡ false) × (eqb d 45 ≡ false)
-other-first d e =
-    let b = and_parts (leb 48 d) (leb d 57) e in
-    let low = leb-true 48 d b.0 in
-    let high = leb-true d 57 b.1 in
-    (ne_eqb d 63 (λ x. omega arith), ne_eqb d 45 (λ x. omega arith))
+other-first d e = grind (arith, nat_tests)
 
 item-read : (t rest : List ℕ) (i : Item) → Spells t i → is_digit (get_or rest 0 0) ≡ false → item_at (t ++ rest) ≡ Some (record { value = i; rest = rest })
 item-read t rest i off e = refl
@@ -65,9 +59,7 @@ key-read k rest (key b bs s each) e =
 
 -- a key begins with no blank
 key-first : (k rest : List ℕ) → Key k → (is_blank (get_or (k ++ rest) 0 0) ≡ false) × (is_space (get_or (k ++ rest) 0 0) ≡ false)
-key-first k rest (key b bs s each) =
-    let other : (b ≡ 32 → ⊥) × (b ≡ 9 → ⊥) = grind (arith, nat_tests) in
-    (grind (arith, nat_tests), ne_eqb b 32 other.0)
+key-first k rest (key b bs s each) = grind (arith, nat_tests)
 
 key-some : (k : List ℕ) → Key k → 0 < length k
 key-some k (key b bs s each) = omega arith
@@ -86,11 +78,7 @@ member-read l t rest m (full k u i is_key spelled) s =
 blank-stops : (w rest : List ℕ) → Each is_blank w → (get_or rest 0 0 ≡ 0) ⊎ (get_or rest 0 0 ≡ 44) → Stops (get_or (w ++ rest) 0 0)
 blank-stops [] rest h (inl e) = subst Stops (sym e) (refl, refl, refl)
 blank-stops [] rest h (inr e) = subst Stops (sym e) (refl, refl, refl)
-blank-stops (b ∷ w) rest h e =
-    ⊎_elim
-    (λ t. subst Stops (sym (eqb-true b 32 t)) (refl, refl, refl))
-    (λ t. subst Stops (sym (eqb-true b 9 t)) (refl, refl, refl))
-    (or_cases (eqb b 32) (eqb b 9) h.0)
+blank-stops (b ∷ w) rest h e = grind (arith, nat_tests)
 
 one-first : (t rest : List ℕ) (m : Member) → OneMember t m → (is_blank (get_or (t ++ rest) 0 0) ≡ false) × (is_space (get_or (t ++ rest) 0 0) ≡ false)
 one-first t rest m (bare k is_key) = key-first k rest is_key
@@ -106,9 +94,12 @@ one-some : (t : List ℕ) (m : Member) → OneMember t m → 0 < length t
 one-some t m (bare k is_key) = key-some k is_key
 one-some t m (full k u i is_key spelled) = omega (arith, key-some k is_key, length-append k (61 ∷ u))
 
+members-some : (bs : List ℕ) (ms : List Member) → Members bs ms → 0 < length bs
+members-some bs ms (last t w m one blanks) = omega (arith, one-some t m one, length-append t w)
+members-some bs ms (more t w v cs m ns one b1 b2 others) = omega (arith, one-some t m one, length-append t (w ++ (44 ∷ (v ++ cs))))
+
 members-read : (n : ℕ) (l : Latest) (bs : List ℕ) (ms : List Member) → Members bs ms → length bs ≤ n → members_of n l bs ≡ Some (gathered l ms)
-members-read zero l bs ms (last t w m one blanks) le = absurd (omega (arith, one-some t m one, length-append t w))
-members-read zero l bs ms (more t w v cs m ns one b1 b2 others) le = absurd (omega (arith, one-some t m one, length-append t (w ++ (44 ∷ (v ++ cs)))))
+members-read zero l bs ms all le = absurd (omega (arith, members-some bs ms all))
 members-read (suc n) l bs ms (last t w m one blanks) le =
     let next : Latest = noted l m.name m.item in
     let stop : Stops (get_or w 0 0) = subst (λ x. Stops (get_or x 0 0)) (append-nil w) (blank-stops w [] blanks (inl refl)) in
@@ -128,10 +119,6 @@ members-read (suc n) l bs ms (more t w v cs m ns one b1 b2 others) le =
     ∙ cond-false _ (Some next) _ (ne_eqb (length rest) 0 (λ x. omega arith))
     ∙ ap (members_of n next) further
     ∙ members-read n next cs ns others (omega (arith, one-some t m one))
-
-members-some : (bs : List ℕ) (ms : List Member) → Members bs ms → 0 < length bs
-members-some bs ms (last t w m one blanks) = omega (arith, one-some t m one, length-append t w)
-members-some bs ms (more t w v cs m ns one b1 b2 others) = omega (arith, one-some t m one, length-append t (w ++ (44 ∷ (v ++ cs))))
 
 -- what is left behind the leading spaces
 abbrev from : List ℕ → Option Latest

@@ -1,10 +1,11 @@
 -- Whatever is read is derived by the grammar.
-use Rattle.std.proofs.Common.{◌≡◌, ℕ, zero, suc, ◌+◌, ◌<◌, ◌≤◌, Bool, true, false, cond, ◌&&◌, eqb, leb, ◌⊎◌, List, [], ◌∷◌, ◌++◌, length, get_or, take, drop, Some, None, Option, sym, refl, ap, ◌∙◌, subst, inl, inr, ⊎_elim, append_assoc, append-nil, one-add, arith, take-append-drop}
+use Rattle.std.proofs.Common.{◌≡◌, ℕ, zero, suc, ◌+◌, ◌<◌, Bool, true, false, cond, ◌&&◌, eqb, leb, ◌⊎◌, List, [], ◌∷◌, ◌++◌, length, get_or, take, drop, Some, None, Option, sym, refl, ap, ◌∙◌, subst, inl, inr, ⊎_elim, append_assoc, append-nil, one-add, arith, take-append-drop}
 use Rattle.std.specs.List.{prefix_len}
-use Rattle.std.proofs.lemmas.Bool.{eqb-true, leb-true, and_parts, cond_both}
+use Rattle.std.proofs.lemmas.Bool.{eqb-true, cond_both}
 use Rattle.std.proofs.lemmas.Option.{same_Some}
-use Rattle.std.proofs.lemmas.List.Sums.{prefix_len-le-length}
-use Rattle.std.proofs.lemmas.List.{length-take-le, nil_from_length}
+use Rattle.std.proofs.lemmas.Bool.Decides.{nat_tests}
+use Rattle.std.proofs.lemmas.List.Folds.{length-prefix_len}
+use Rattle.std.proofs.lemmas.List.{nil_from_length}
 use Rattle.wire.specs.declared.priorities.Item.{Item}
 use Rattle.wire.specs.declared.priorities.Item.TheVariants.{Boolean}
 use Rattle.wire.specs.declared.priorities.Latest.{Latest}
@@ -53,11 +54,8 @@ record ItemRead (bs : List ℕ) (r : Front Item) : Type 0 where
 
 digits-sound : (bs : List ℕ) → (leb 1 (digit_count bs) && leb (digit_count bs) 15) ≡ true → Digits (take (digit_count bs) bs)
 digits-sound bs e =
-    let both = and_parts (leb 1 (digit_count bs)) (leb (digit_count bs) 15) e in
-    let low : 1 ≤ digit_count bs = leb-true 1 (digit_count bs) both.0 in
-    let high : digit_count bs ≤ 15 = leb-true (digit_count bs) 15 both.1 in
-    let long : length (take (digit_count bs) bs) ≡ digit_count bs = length-take-le (digit_count bs) bs (prefix_len-le-length is_digit bs) in
-    record { each = front is_digit bs; some = omega arith; few = omega arith }
+    let long : length (take (digit_count bs) bs) ≡ digit_count bs = length-prefix_len is_digit bs in
+    record { each = front is_digit bs; some = grind (arith, nat_tests); few = grind (arith, nat_tests) }
 
 plus-sound : (bs : List ℕ) (r : Front Item) → Some r ≡ integer_at false bs → ItemRead bs r
 plus-sound bs r e =

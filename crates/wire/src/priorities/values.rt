@@ -10,6 +10,7 @@ use crate::priorities::{Item, Latest};
 // The most digits that an integer has.
 const DIGITS: usize = 15;
 
+// The octets that the parts of a value are made of: spaces, spaces and tabs, digits, and those of a key.
 fn is_space(b: u8) -> bool
     ensures { result ≡ is_space b }
 {
