@@ -1,4 +1,3 @@
-pub mod Settings
 pub mod PairFields
 pub mod Outcomes
 pub mod Steps

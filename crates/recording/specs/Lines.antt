@@ -1,12 +1,12 @@
 -- The lines of a listing: what a line says of a frame, and the octets of its text.
-use Rattle.std.specs.Prelude.{ℕ, ◌+◌, ◌<◌, Bool, true, false, cond, List, [], ◌∷◌, ◌++◌, map, length, Ok, Err, codes, decimal, Result, ◌==◌}
+use Rattle.std.specs.Prelude.{ℕ, Bool, true, false, cond, List, [], ◌∷◌, ◌++◌, map, length, Ok, Err, codes, decimal, Result, ◌==◌}
 use Rattle.std.specs.Option.{ok_or}
 use Rattle.wire.specs.declared.faults.Fault.{Fault}
 use Rattle.wire.specs.declared.priorities.Priority.{Priority}
 use Rattle.wire.specs.declared.settings.Setting.{Setting}
 use Rattle.wire.specs.Frames.{Told, settings, settings_ack, window_update, reset_stream, priority_update, other, frame_of}
 use Rattle.wire.specs.DataFrames.{ToldData, data_of}
-use Rattle.wire.specs.Faults.{unreadable_priority}
+use Rattle.wire.specs.Faults.{number_of, code_of, error_number, unreadable_priority}
 use Rattle.wire.specs.Settings.{settings_of}
 use Rattle.wire.specs.Urgencies.{urgency_number}
 use Rattle.wire.specs.Values.{value_of}
@@ -89,7 +89,7 @@ fields_of (reset stream code) = codes "reset" ∷ decimal stream ∷ decimal cod
 fields_of (update target p) = codes "priority" ∷ decimal target ∷ decimal (urgency_number p.urgency) ∷ flag p.incremental ∷ []
 fields_of (payload stream octets end) = codes "data" ∷ decimal stream ∷ decimal octets ∷ flag end ∷ []
 fields_of (frame kind stream) = codes "frame" ∷ decimal kind ∷ decimal stream ∷ []
-fields_of (refused e) = codes "fault" ∷ decimal e.number ∷ decimal e.code ∷ decimal e.stream ∷ decimal e.place ∷ []
+fields_of (refused e) = codes "fault" ∷ decimal (number_of e.cause) ∷ decimal (error_number (code_of e.cause)) ∷ decimal e.stream ∷ decimal e.place ∷ []
 
 -- the text of a line
 abbrev pub text_of : ℕ → Said → List ℕ
@@ -105,14 +105,3 @@ said (Update target p) = update target p
 said (Data stream octets end) = payload stream octets end
 said (Frame kind stream) = frame kind stream
 said (Refused e) = refused e
-
--- the pairs of a line end at a place of 32 bits, as those of every frame that is read do
-abbrev pub Short : Line → Type 0
-Short (Settings p) = p.place + length p.octets.now < 4294967296
-Short SettingsAck = Unit {0}
-Short (Window stream increment) = Unit {0}
-Short (Reset stream code) = Unit {0}
-Short (Update target p) = Unit {0}
-Short (Data stream octets end) = Unit {0}
-Short (Frame kind stream) = Unit {0}
-Short (Refused e) = Unit {0}

@@ -4,7 +4,7 @@ ghost use Rattle.std.specs.Option.{ok_or};
 ghost use Rattle.wire.specs.DataFrames.{data_of};
 ghost use Rattle.wire.specs.Faults.{unreadable_priority};
 ghost use Rattle.wire.specs.Values.{value_of};
-ghost use Rattle.recording.specs.Lines.{said, said_of, said_data, said_priority, Short};
+ghost use Rattle.recording.specs.Lines.{said, said_of, said_data, said_priority};
 
 use wire::{Fault, Frame, Pairs, Priority, read_data, read_frame, read_priority_update};
 
@@ -44,7 +44,6 @@ impl<'a> Line<'a> {
     // What is said of exactly one frame, or of what a recording that stops inside a frame has of it.
     pub(crate) fn of(octets: &'a [u8]) -> Line<'a>
         ensures says { said result ≡ said_of octets.now }
-        ensures short { Short result }
     {
         match read_frame(octets) {
             Ok(Frame::Settings(pairs)) => Line::Settings(pairs),
@@ -66,7 +65,6 @@ impl<'a> Line<'a> {
     // What is said of a PRIORITY_UPDATE frame's target and value.
     fn of_priority(target: u32, value: &'a [u8]) -> Line<'a>
         ensures says { said result ≡ said_priority target (ok_or (value_of value.now) (unreadable_priority target)) }
-        ensures short { Short result }
     {
         match read_priority_update(target, value) {
             Ok(priority) => Line::Priority { target, priority },
@@ -77,7 +75,6 @@ impl<'a> Line<'a> {
     // What is said of a DATA frame.
     fn of_data(octets: &'a [u8]) -> Line<'a>
         ensures says { said result ≡ said_data (data_of octets.now) }
-        ensures short { Short result }
     {
         match read_data(octets) {
             Ok(data) => Line::Data {

@@ -1,6 +1,6 @@
 // The text of a line, appended to a `String`.
 ghost use Rattle.std.specs.Prelude.{◌≡◌, [], ◌∷◌, ◌++◌, string_bytes, decimal, OnOk};
-ghost use Rattle.recording.specs.Lines.{said, ack, update, payload, refused, line_of, pair_fields, further, Short, text_of};
+ghost use Rattle.recording.specs.Lines.{said, ack, update, payload, refused, line_of, pair_fields, further, text_of};
 
 use crate::lines::Line;
 use std::alloc::AllocError;
@@ -9,7 +9,6 @@ use wire::{Fault, Pairs, Priority};
 impl<'a> Line<'a> {
     // Appends the text of a line.
     pub(crate) fn append(self, index: u64, text: &mut String) -> Result<(), AllocError>
-        requires { Short self }
         ensures { OnOk result (string_bytes text.new ≡ string_bytes text.old ++ text_of index (said self.entry)) }
     {
         match self {
@@ -39,7 +38,6 @@ impl<'a> Line<'a> {
 
 // Appends the line of a SETTINGS frame.
 fn append_settings(index: u64, pairs: Pairs, text: &mut String) -> Result<(), AllocError>
-    requires { Short (Line.Settings pairs) }
     ensures { OnOk result (string_bytes text.new ≡ string_bytes text.old ++ text_of index (said (Line.Settings pairs.entry))) }
 {
     write!(text, "{index} settings")?;
@@ -48,7 +46,6 @@ fn append_settings(index: u64, pairs: Pairs, text: &mut String) -> Result<(), Al
 
 // Appends a field for each pair, and the end of the line.
 fn append_pairs(pairs: Pairs, text: &mut String) -> Result<(), AllocError>
-    requires { Short (Line.Settings pairs) }
     ensures { OnOk result (string_bytes text.new ≡ string_bytes text.old ++ further (pair_fields pairs.entry.octets.now pairs.entry.place)) }
 {
     for pair in pairs {
@@ -111,8 +108,8 @@ fn append_data(
 fn append_fault(index: u64, fault: Fault, text: &mut String) -> Result<(), AllocError>
     ensures { OnOk result (string_bytes text.new ≡ string_bytes text.old ++ text_of index (refused fault)) }
 {
-    let number = fault.number;
-    let code = fault.code;
+    let number = fault.cause.number();
+    let code = fault.cause.code().number();
     let stream = fault.stream;
     let place = fault.place;
     writeln!(text, "{index} fault {number} {code} {stream} {place}")
