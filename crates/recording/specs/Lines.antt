@@ -1,19 +1,20 @@
 -- The lines of a listing: what a line says of a frame, and the octets of its text.
-use Rattle.std.specs.Prelude.{ℕ, Bool, true, false, cond, List, [], ◌∷◌, ◌++◌, map, length, Ok, Err, codes, decimal, Result, ◌==◌}
+use Rattle.std.specs.Prelude.{ℕ, Bool, cond, List, ◌∷◌, [], ◌++◌, length, Ok, Err, codes, decimal, Result, ◌==◌}
+use Rattle.std.specs.List.{flat_map, join_by}
 use Rattle.std.specs.Option.{ok_or}
 use Rattle.wire.specs.declared.faults.Fault.{Fault}
 use Rattle.wire.specs.declared.priorities.Priority.{Priority}
 use Rattle.wire.specs.declared.settings.Setting.{Setting}
-use Rattle.wire.specs.Frames.{Told, settings, settings_ack, window_update, reset_stream, priority_update, other, frame_of}
-use Rattle.wire.specs.DataFrames.{ToldData, data_of}
+use Rattle.wire.specs.Frames.{Told, settings, settings_ack, window_update, reset_stream, priority_update, other, frame_of, behind}
+use Rattle.wire.specs.DataFrames.{data_of}
 use Rattle.wire.specs.Faults.{number_of, code_of, error_number, unreadable_priority}
-use Rattle.wire.specs.Settings.{settings_of}
+use Rattle.wire.specs.Settings.{settings_of, to_come}
 use Rattle.wire.specs.Urgencies.{urgency_number}
 use Rattle.wire.specs.Values.{value_of}
 use Rattle.recording.specs.declared.lines.Line.{Line}
-use Rattle.recording.specs.declared.lines.Line.TheVariants.{Settings, SettingsAck, Window, Reset, Priority as Update, Data, Frame, Fault as Refused}
+use Rattle.recording.specs.declared.lines.Line.TheVariants.{Settings, SettingsAck, Window, Reset, Priority as Update, Data, Frame}
 
--- what a line says of a frame
+-- what a line says of a frame that is read
 pub data Said : Type 0 where
   pairs : List Setting → Said
   ack : Said
@@ -22,86 +23,71 @@ pub data Said : Type 0 where
   update : ℕ → Priority → Said
   payload : ℕ → ℕ → Bool → Said
   frame : ℕ → ℕ → Said
-  refused : Fault → Said
 
--- what is said of a PRIORITY_UPDATE frame for a target
-abbrev pub said_priority : ℕ → Result Priority Fault → Said
-said_priority target (Ok p) = update target p
-said_priority target (Err e) = refused e
+-- what is said of a frame that reads so: a target's value, and a frame of type DATA, may be refused in their turn
+abbrev pub said_told : List ℕ → Told → Result Said Fault
+said_told o (settings octets at) = Ok (pairs (settings_of octets at))
+said_told o settings_ack = Ok ack
+said_told o (window_update stream increment) = Ok (window stream increment)
+said_told o (reset_stream stream code) = Ok (reset stream code)
+said_told o (priority_update target value at) = behind (ok_or (value_of value) (unreadable_priority target)) (λ p. Ok (update target p))
+said_told o (other kind stream) = cond (kind == 0) (behind (data_of o) (λ d. Ok (payload d.stream (length d.payload) d.end))) (Ok (frame kind stream))
 
--- what is said of a frame of type DATA
-abbrev pub said_data : Result ToldData Fault → Said
-said_data (Ok d) = payload d.stream (length d.payload) d.end
-said_data (Err e) = refused e
-
--- what is said of a frame that reads so
-abbrev pub said_told : List ℕ → Result Told Fault → Said
-said_told o (Ok (settings octets at)) = pairs (settings_of octets at)
-said_told o (Ok settings_ack) = ack
-said_told o (Ok (window_update stream increment)) = window stream increment
-said_told o (Ok (reset_stream stream code)) = reset stream code
-said_told o (Ok (priority_update target value at)) = said_priority target (ok_or (value_of value) (unreadable_priority target))
-said_told o (Ok (other kind stream)) = cond (kind == 0) (said_data (data_of o)) (frame kind stream)
-said_told o (Err e) = refused e
-
--- what is said of the octets of one frame
-abbrev pub said_of : List ℕ → Said
-said_of o = said_told o (frame_of o)
-
--- a line is the fault of a frame that is refused
-abbrev pub is_fault : Said → Bool
-is_fault (pairs xs) = false
-is_fault ack = false
-is_fault (window stream increment) = false
-is_fault (reset stream code) = false
-is_fault (update target p) = false
-is_fault (payload stream octets end) = false
-is_fault (frame kind stream) = false
-is_fault (refused e) = true
-
--- fields behind another: a space before each, and a newline at the end
-abbrev pub further : List (List ℕ) → List ℕ
-further [] = 10 ∷ []
-further (f ∷ fs) = 32 ∷ (f ++ further fs)
-
--- a line begins with its first field
-abbrev pub line_of : List ℕ → List (List ℕ) → List ℕ
-line_of f fs = f ++ further fs
-
--- a setting as a field: ID=VALUE
-abbrev pub pair_field : Setting → List ℕ
-pair_field s = decimal s.identifier ++ (61 ∷ decimal s.value)
-
--- the settings of a frame as fields
-abbrev pub pair_fields : List ℕ → ℕ → List (List ℕ)
-pair_fields o at = map pair_field (settings_of o at)
-
--- a truth as a field
-abbrev pub flag : Bool → List ℕ
-flag b = decimal (cond b 1 0)
-
--- the fields behind the index
-abbrev pub fields_of : Said → List (List ℕ)
-fields_of (pairs xs) = codes "settings" ∷ map pair_field xs
-fields_of ack = codes "settings" ∷ codes "ack" ∷ []
-fields_of (window stream increment) = codes "window" ∷ decimal stream ∷ decimal increment ∷ []
-fields_of (reset stream code) = codes "reset" ∷ decimal stream ∷ decimal code ∷ []
-fields_of (update target p) = codes "priority" ∷ decimal target ∷ decimal (urgency_number p.urgency) ∷ flag p.incremental ∷ []
-fields_of (payload stream octets end) = codes "data" ∷ decimal stream ∷ decimal octets ∷ flag end ∷ []
-fields_of (frame kind stream) = codes "frame" ∷ decimal kind ∷ decimal stream ∷ []
-fields_of (refused e) = codes "fault" ∷ decimal (number_of e.cause) ∷ decimal (error_number (code_of e.cause)) ∷ decimal e.stream ∷ decimal e.place ∷ []
-
--- the text of a line
-abbrev pub text_of : ℕ → Said → List ℕ
-text_of index s = line_of (decimal index) (fields_of s)
+-- what is said of the octets of one frame, or the fault that refuses them
+abbrev pub said_of : List ℕ → Result Said Fault
+said_of o = behind (frame_of o) (said_told o)
 
 -- what a line of the code says
 abbrev pub said : Line → Said
-said (Settings p) = pairs (settings_of p.octets.now p.place)
+said (Settings p) = pairs (to_come p)
 said SettingsAck = ack
 said (Window stream increment) = window stream increment
 said (Reset stream code) = reset stream code
 said (Update target p) = update target p
 said (Data stream octets end) = payload stream octets end
 said (Frame kind stream) = frame kind stream
-said (Refused e) = refused e
+
+-- the same of a line or the fault in its place
+abbrev pub said_line : Result Line Fault → Result Said Fault
+said_line (Ok l) = Ok (said l)
+said_line (Err e) = Err e
+
+-- fields with one space between each two
+abbrev pub fields : List (List ℕ) → List ℕ
+fields fs = join_by (λ f. f) (codes " ") fs
+
+-- a setting as a field: ID=VALUE
+abbrev pub pair_field : Setting → List ℕ
+pair_field s = decimal s.identifier ++ (61 ∷ decimal s.value)
+
+-- a truth as a field
+abbrev pub flag : Bool → List ℕ
+flag b = decimal (cond b 1 0)
+
+-- settings as fields, each behind a space
+abbrev pub pair_fields : List Setting → List ℕ
+pair_fields xs = flat_map (λ s. 32 ∷ pair_field s) xs
+
+-- the text of a line behind its index
+abbrev pub said_text : Said → List ℕ
+said_text (pairs xs) = codes "settings" ++ pair_fields xs
+said_text ack = fields (codes "settings" ∷ codes "ack" ∷ [])
+said_text (window stream increment) = fields (codes "window" ∷ decimal stream ∷ decimal increment ∷ [])
+said_text (reset stream code) = fields (codes "reset" ∷ decimal stream ∷ decimal code ∷ [])
+said_text (update target p) = fields (codes "priority" ∷ decimal target ∷ decimal (urgency_number p.urgency) ∷ flag p.incremental ∷ [])
+said_text (payload stream octets end) = fields (codes "data" ∷ decimal stream ∷ decimal octets ∷ flag end ∷ [])
+said_text (frame kind stream) = fields (codes "frame" ∷ decimal kind ∷ decimal stream ∷ [])
+
+-- the same of a frame that is refused
+abbrev pub fault_text : Fault → List ℕ
+fault_text e =
+    fields (codes "fault" ∷ decimal (number_of e.cause) ∷ decimal (error_number (code_of e.cause)) ∷ decimal e.stream ∷ decimal e.place ∷ [])
+
+-- the same of either
+abbrev pub entry_text : Result Said Fault → List ℕ
+entry_text (Ok s) = said_text s
+entry_text (Err e) = fault_text e
+
+-- the text of a line
+abbrev pub text_of : ℕ → Result Said Fault → List ℕ
+text_of index r = fields (decimal index ∷ entry_text r ∷ []) ++ codes "\n"

@@ -1,8 +1,9 @@
 -- The listing of a recording: a line for each frame, and a last line with the counts.
-use Rattle.std.specs.Prelude.{ℕ, zero, suc, ◌+◌, ◌-◌, Bool, cond, List, [], ◌∷◌, ◌++◌, length, take, drop, codes, decimal, ◌==◌}
+use Rattle.std.specs.Prelude.{ℕ, zero, suc, ◌+◌, ◌-◌, Bool, cond, List, [], ◌∷◌, ◌++◌, length, take, drop, is_err, codes, decimal, Result, ◌==◌}
+use Rattle.wire.specs.declared.faults.Fault.{Fault}
 use Rattle.wire.specs.Frames.{frame_end}
 use Rattle.recording.specs.declared.listings.Listing.{Listing}
-use Rattle.recording.specs.Lines.{Said, said_of, is_fault, line_of, text_of}
+use Rattle.recording.specs.Lines.{Said, said_of, fields, text_of}
 
 -- how far a listing has come: the octets that are left, the lines and the faults so far, and the octets of the recording
 pub record State : Type 0 where
@@ -22,7 +23,7 @@ abbrev pub done : State → Bool
 done s = length s.left == 0
 
 -- what the next line says: the next frame goes as far as its own length, or to the end of the recording
-abbrev pub next_said : State → Said
+abbrev pub next_said : State → Result Said Fault
 next_said s = said_of (take (frame_end s.left) s.left)
 
 -- the listing behind its next line
@@ -31,7 +32,7 @@ next s =
     record {
       left = drop (frame_end s.left) s.left;
       frames = s.frames + 1;
-      faults = s.faults + cond (is_fault (next_said s)) 1 0;
+      faults = s.faults + cond (is_err (next_said s)) 1 0;
       octets = s.octets;
     }
 
@@ -49,7 +50,7 @@ moved_text s = cond (done s) [] (next_text s)
 
 -- the text of the last line
 abbrev pub sum_text : State → List ℕ
-sum_text s = line_of (codes "sum") (decimal s.frames ∷ decimal s.faults ∷ decimal s.octets ∷ [])
+sum_text s = fields (codes "sum" ∷ decimal s.frames ∷ decimal s.faults ∷ decimal s.octets ∷ []) ++ codes "\n"
 
 -- the text from a state on, of at most so many frames
 abbrev pub text_from : ℕ → State → List ℕ

@@ -1,116 +1,56 @@
-// The text of a line, appended to a `String`.
-ghost use Rattle.std.specs.Prelude.{◌≡◌, [], ◌∷◌, ◌++◌, string_bytes, decimal, OnOk};
-ghost use Rattle.recording.specs.Lines.{said, ack, update, payload, refused, line_of, pair_fields, further, text_of};
+// The texts of lines, behind their index.
+ghost use Rattle.std.specs.Prelude.{Some};
+ghost use Rattle.recording.specs.Lines.{said, said_text, fault_text};
 
 use crate::lines::Line;
-use std::alloc::AllocError;
-use wire::{Fault, Pairs, Priority};
+use std::fmt;
+use wire::Fault;
 
-impl<'a> Line<'a> {
-    // Appends the text of a line.
-    pub(crate) fn append(self, index: u64, text: &mut String) -> Result<(), AllocError>
-        ensures { OnOk result (string_bytes text.new ≡ string_bytes text.old ++ text_of index (said self.entry)) }
-    {
-        match self {
-            Line::Settings(pairs) => append_settings(index, pairs, text),
-            Line::SettingsAck => append_ack(index, text),
-            Line::Window { stream, increment } => append_numbers(
-                index, "window", stream, increment, text,
-            ),
-            Line::Reset { stream, code } => append_numbers(index, "reset", stream, code, text),
-            Line::Priority { target, priority } => append_priority(index, target, priority, text),
+impl fmt::Display for Line<'_> {
+    ghost output = { λ line. Some (said_text (said line)) };
+
+    fn fmt<W: fmt::Write>(&self, f: &mut fmt::Formatter<W>) -> fmt::Result {
+        match *self {
+            Line::Settings(pairs) => {
+                f.write_str("settings")?;
+                for pair in pairs {
+                    write!(f, " {}={}", pair.identifier, pair.value)?;
+                }
+                Ok(())
+            }
+            Line::SettingsAck => f.write_str("settings ack"),
+            Line::Window { stream, increment } => write!(f, "window {stream} {increment}"),
+            Line::Reset { stream, code } => write!(f, "reset {stream} {code}"),
+            Line::Priority { target, priority } => {
+                let urgency = priority.urgency.number();
+                let incremental = u8::from(priority.incremental);
+                write!(f, "priority {target} {urgency} {incremental}")
+            }
             Line::Data {
                 stream,
                 length,
                 end,
-            } => append_data(index, stream, length, end, text),
-            Line::Frame { kind, stream } => append_numbers(
-                index,
-                "frame",
-                u32::from(kind),
-                stream,
-                text,
-            ),
-            Line::Fault(fault) => append_fault(index, fault, text),
+            } => write!(f, "data {stream} {length} {}", u8::from(end)),
+            Line::Frame { kind, stream } => write!(f, "frame {kind} {stream}"),
         }
     }
 }
 
-// Appends the line of a SETTINGS frame.
-fn append_settings(index: u64, pairs: Pairs, text: &mut String) -> Result<(), AllocError>
-    ensures { OnOk result (string_bytes text.new ≡ string_bytes text.old ++ text_of index (said (Line.Settings pairs.entry))) }
-{
-    write!(text, "{index} settings")?;
-    append_pairs(pairs, text)
-}
+// A fault, which stands in a line where its frame is refused.
+#[derive(Clone, Copy)]
+pub(crate) struct Refused(pub(crate) Fault);
 
-// Appends a field for each pair, and the end of the line.
-fn append_pairs(pairs: Pairs, text: &mut String) -> Result<(), AllocError>
-    ensures { OnOk result (string_bytes text.new ≡ string_bytes text.old ++ further (pair_fields pairs.entry.octets.now pairs.entry.place)) }
-{
-    for pair in pairs {
-        let identifier = pair.identifier;
-        let value = pair.value;
-        write!(text, " {identifier}={value}")?;
+impl fmt::Display for Refused {
+    ghost output = { λ refused. Some (fault_text refused.0) };
+
+    fn fmt<W: fmt::Write>(&self, f: &mut fmt::Formatter<W>) -> fmt::Result {
+        let Fault {
+            cause,
+            stream,
+            place,
+        } = self.0;
+        let number = cause.number();
+        let code = cause.code().number();
+        write!(f, "fault {number} {code} {stream} {place}")
     }
-    text.push('\n')
-}
-
-// Appends the line of an acknowledgement.
-fn append_ack(index: u64, text: &mut String) -> Result<(), AllocError>
-    ensures { OnOk result (string_bytes text.new ≡ string_bytes text.old ++ text_of index ack) }
-{
-    writeln!(text, "{index} settings ack")
-}
-
-// Appends a line of a word and two numbers.
-fn append_numbers(
-    index: u64,
-    word: &str,
-    first: u32,
-    second: u32,
-    text: &mut String,
-) -> Result<(), AllocError>
-    ensures { OnOk result (string_bytes text.new ≡ string_bytes text.old ++ line_of (decimal index) (word.now ∷ decimal first ∷ decimal second ∷ [])) }
-{
-    writeln!(text, "{index} {word} {first} {second}")
-}
-
-// Appends the line of a PRIORITY_UPDATE frame.
-fn append_priority(
-    index: u64,
-    target: u32,
-    priority: Priority,
-    text: &mut String,
-) -> Result<(), AllocError>
-    ensures { OnOk result (string_bytes text.new ≡ string_bytes text.old ++ text_of index (update target priority)) }
-{
-    let urgency = priority.urgency.number();
-    let incremental = u8::from(priority.incremental);
-    writeln!(text, "{index} priority {target} {urgency} {incremental}")
-}
-
-// Appends the line of a DATA frame.
-fn append_data(
-    index: u64,
-    stream: u32,
-    length: usize,
-    end: bool,
-    text: &mut String,
-) -> Result<(), AllocError>
-    ensures { OnOk result (string_bytes text.new ≡ string_bytes text.old ++ text_of index (payload stream length end)) }
-{
-    let end = u8::from(end);
-    writeln!(text, "{index} data {stream} {length} {end}")
-}
-
-// Appends the line of a frame that is refused.
-fn append_fault(index: u64, fault: Fault, text: &mut String) -> Result<(), AllocError>
-    ensures { OnOk result (string_bytes text.new ≡ string_bytes text.old ++ text_of index (refused fault)) }
-{
-    let number = fault.cause.number();
-    let code = fault.cause.code().number();
-    let stream = fault.stream;
-    let place = fault.place;
-    writeln!(text, "{index} fault {number} {code} {stream} {place}")
 }

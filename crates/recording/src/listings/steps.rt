@@ -4,6 +4,7 @@ ghost use Rattle.recording.specs.Listings.{state, start, done, moved, moved_text
 
 use crate::lines::Line;
 use crate::listings::Listing;
+use crate::texts::Refused;
 use std::alloc::{AllocError, Global};
 use wire::split_frame;
 
@@ -30,13 +31,16 @@ impl<'a> Listing<'a> {
             return Ok(false);
         }
         let (frame, left) = split_frame(self.left);
-        let line = Line::of(frame);
-        line.append(self.frames, text)?;
+        let index = self.frames;
+        match Line::of(frame) {
+            Ok(line) => writeln!(text, "{index} {line}")?,
+            Err(fault) => {
+                writeln!(text, "{index} {}", Refused(fault))?;
+                self.faults += 1;
+            }
+        }
         self.left = left;
         self.frames += 1;
-        if let Line::Fault(_) = line {
-            self.faults += 1;
-        }
         Ok(true)
     }
 
