@@ -8,7 +8,7 @@ mod texts;
 
 pub use listings::Listing;
 pub use listings::steps::list;
-pub use printing::print;
+pub use printing::{list_to, print};
 
 #[cfg(test)]
 mod tests;
