@@ -8,7 +8,7 @@ use std::alloc::Global;
 use std::io;
 use std::io::{Read, Write};
 
-// Lists the recording on standard input, on standard output.
+// Lists the recording on standard input, on standard output; what these hold, no contract says, and `list_to` has what is promised.
 pub fn print(rt: &HostRuntime) -> io::Result<()> {
     list_to(rt.alloc(), &mut rt.stdin(), &mut rt.stdout())
 }
