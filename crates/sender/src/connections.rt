@@ -14,6 +14,7 @@ pub mod settings;
 pub mod starting;
 pub mod updating;
 
+// That gate, policy and table stand together is no field, since a connection may be made over a gate that is not fresh.
 #[derive(Drop)]
 pub struct Connection<G, P> {
     gate: G,

@@ -1,7 +1,6 @@
 // Readings, which alter nothing.
 ghost use Rattle.std.specs.Prelude.{◌≡◌, ℕ};
-ghost use Rattle.credit.specs.Credit.{held_by};
-ghost use Rattle.sender.specs.Readings.{window_read, stream_read, connection_read};
+ghost use Rattle.sender.specs.Readings.{stream_read, connection_read};
 
 use crate::connections::Connection;
 use credit::Gate;
@@ -31,26 +30,12 @@ pub struct ConnectionReading {
 }
 
 impl<G: Gate, P: Policy> Connection<G, P> {
-    // A stream's window; 0 where it is not open.
-    fn window(&self, id: u32) -> i32
-        ensures { result ≡ window_read ((G.Gate.meaning self.now.gate).stream id) }
-    {
-        self.gate.window(id).unwrap_or(0)
-    }
-
-    // The octets of a stream's open grant; 0 where it has none.
-    fn held(&self, id: u32) -> u32
-        ensures { result ≡ held_by ((G.Gate.meaning self.now.gate).stream id) }
-    {
-        self.gate.held(id).unwrap_or(0)
-    }
-
     // What a stream has; 0 throughout where it is not open.
     pub fn stream(&self, id: u32) -> StreamReading
         ensures { result ≡ stream_read ((G.Gate.meaning self.now.gate).stream id) (G.Gate.free self.now.gate id) }
     {
-        let window = self.window(id);
-        let held = self.held(id);
+        let window = self.gate.window(id).unwrap_or(0);
+        let held = self.gate.held(id).unwrap_or(0);
         StreamReading {
             window,
             held,
