@@ -5,6 +5,7 @@ use Rattle.std.specs.List.{AllByRecursion}
 use Rattle.std.specs.Map.{update}
 use Rattle.std.proofs.lemmas.Map.{update_here, update_apart}
 use Rattle.std.proofs.lemmas.Bool.{cases_eq}
+use Rattle.std.proofs.lemmas.Option.{same_Some, MatchOption-at_some}
 use Rattle.wire.specs.declared.priorities.Priority.{Priority}
 use Rattle.credit.specs.Credit.{Credit, Meaning, amount, held_by}
 use Rattle.credit.specs.Calls.{raise, initial, raised, shifted, holding, spent, with_stream}
@@ -16,7 +17,7 @@ use Rattle.model.specs.Laws.{Fresh, Meant}
 use Rattle.schedule.specs.Ranks.{Least, Chosen}
 use Rattle.model.specs.Rules.{Holds, Ready, ReadyStream}
 use Rattle.model.specs.declared.calls.Grant.{Grant}
-use Rattle.model.proofs.Points.{on_same, on-is, on-other, on-most, at_each, none-some, some_same, is_none, cases-some}
+use Rattle.model.proofs.Points.{on_same, on-is, on-other, on-most, at_each, none-some, is_none}
 use Rattle.model.proofs.Effects.{Effect, Leases, quiet, ends, raises, renews, closes, ranks, starts, skips, queues, grants, sends, backs}
 use Rattle.model.proofs.Grants.{total-without, none-on, other-on, all_without, all-to, number-stream, times-same, times-other, times-without, times_none}
 use Rattle.model.proofs.Ties.{Ties, settling, fresh-stream, paired-some, paired_none}
@@ -110,11 +111,11 @@ lease-grants es s t g k free number held holds opens given =
       holds = λ q. holds q ∙ ap (λ z. on q g.id g.octets + z) (k.holds q);
       matched = (opens g.id ∙ update_here (opens_at s) g.id (Some g.number), all-to _ _ gs (λ y h. opens y.id ∙ update_apart (opens_at s) g.id (Some g.number) y.id (λ i. none-some (opens_at s g.id) y.number free (ap (opens_at s) (sym i) ∙ h)) ∙ h) k.matched);
       distinct = λ p q n a b. apart p q n (sym (opens p) ∙ a) (sym (opens q) ∙ b);
-      below = λ q n a. at_each (λ i o. (n : ℕ) → o ≡ Some n → (1 ≤ n) × (n ≤ t.given)) (opens_at s) g.id (Some g.number) (λ j e. let same : g.number ≡ j = some_same g.number j e in (omega arith, omega (arith, given))) (λ i ne j e. ((k.below i j e).0, omega (arith, given, (k.below i j e).1))) q n (sym (opens q) ∙ a);
+      below = λ q n a. at_each (λ i o. (n : ℕ) → o ≡ Some n → (1 ≤ n) × (n ≤ t.given)) (opens_at s) g.id (Some g.number) (λ j e. let same : g.number ≡ j = same_Some g.number j e in (omega arith, omega (arith, given))) (λ i ne j e. ((k.below i j e).0, omega (arith, given, (k.below i j e).1))) q n (sym (opens q) ∙ a);
       most_once = λ n. ⊎_elim (λ e. omega (arith, subst (λ j. fates j es ≡ 0) e new, on-most g.number n 1)) (λ ne. omega (arith, k.most_once n, on-other g.number n 1 ne)) (cases_eq g.number n);
       each_once = λ n a b. ⊎_elim (λ e. omega (arith, subst (λ j. fates j es ≡ 0) e new, on-is g.number n 1 e)) (λ ne. omega (arith, k.each_once n a (omega (arith, given, number)), on-other g.number n 1 ne)) (cases_eq g.number n);
       none_yet = λ n a. omega (arith, k.none_yet n (omega (arith, given)), on-other g.number n 1 (λ e. omega (arith, given)));
-      listed = λ q n a. at_each (λ i o. (n : ℕ) → o ≡ Some n → 1 ≤ on g.number n 1 + times n gs) (opens_at s) g.id (Some g.number) (λ j e. omega (arith, on-is g.number j 1 (some_same g.number j e))) (λ i ne j e. omega (arith, k.listed i j e)) q n (sym (opens q) ∙ a);
+      listed = λ q n a. at_each (λ i o. (n : ℕ) → o ≡ Some n → 1 ≤ on g.number n 1 + times n gs) (opens_at s) g.id (Some g.number) (λ j e. omega (arith, on-is g.number j 1 (same_Some g.number j e))) (λ i ne j e. omega (arith, k.listed i j e)) q n (sym (opens q) ∙ a);
     }
   where
     new-of : (i n : ℕ) → opens_at s i ≡ Some n → g.number ≡ n → ⊥
@@ -122,8 +123,8 @@ lease-grants es s t g k free number held holds opens given =
 
     apart : (p q n : ℕ) → update eqb (opens_at s) g.id (Some g.number) p ≡ Some n → update eqb (opens_at s) g.id (Some g.number) q ≡ Some n → p ≡ q
     apart = at_each (λ p o. (q n : ℕ) → o ≡ Some n → update eqb (opens_at s) g.id (Some g.number) q ≡ Some n → p ≡ q) (opens_at s) g.id (Some g.number)
-        (λ q n e. at_each (λ i o. o ≡ Some n → g.id ≡ i) (opens_at s) g.id (Some g.number) (λ _. refl) (λ i ne e₁. absurd (new-of i n e₁ (some_same g.number n e))) q)
-        (λ p ne q n e. at_each (λ i o. o ≡ Some n → p ≡ i) (opens_at s) g.id (Some g.number) (λ e₁. absurd (new-of p n e (some_same g.number n e₁))) (λ i ne₁ e₁. k.distinct p i n e e₁) q)
+        (λ q n e. at_each (λ i o. o ≡ Some n → g.id ≡ i) (opens_at s) g.id (Some g.number) (λ _. refl) (λ i ne e₁. absurd (new-of i n e₁ (same_Some g.number n e))) q)
+        (λ p ne q n e. at_each (λ i o. o ≡ Some n → p ≡ i) (opens_at s) g.id (Some g.number) (λ e₁. absurd (new-of p n e (same_Some g.number n e₁))) (λ i ne₁ e₁. k.distinct p i n e e₁) q)
 
 -- the grant of a stream goes, if it has one
 gone-grants : (es : Tale) (e : Happening) (s t : State) (id : ℕ) → Granted es s → open_grants (e ∷ es) ≡ without_stream id (open_grants es) → ((n : ℕ) → fates n (e ∷ es) ≡ fates n es) → t.gate.held ≡ s.gate.held - held_by (s.gate.stream id) → ((q : ℕ) → (q ≡ id → ⊥) → held_by (t.gate.stream q) ≡ held_by (s.gate.stream q)) → held_by (t.gate.stream id) ≡ 0 → ((q : ℕ) → opens_at t q ≡ update eqb (opens_at s) id None q) → t.given ≡ s.given → Granted (e ∷ es) t
@@ -196,13 +197,13 @@ lease-ready m g meant by = by.ready.ready g.id (chosen (m.picks by.ids) by.picke
   where
     chosen : (o : Option ℕ) → o ≡ Some g.id → Least m.state.ranks by.ids o → Chosen m.state.ranks by.ids g.id
     chosen None e l = absurd (none-some None g.id refl e)
-    chosen (Some i) e l = subst (Chosen m.state.ranks by.ids) (some_same i g.id e) l
+    chosen (Some i) e l = subst (Chosen m.state.ranks by.ids) (same_Some i g.id e) l
 
 grant-grants : (es : Tale) (m : Moment) (g : Grant) → Meant m → Ties es m.state → Leases m g → Granted es m.state → Granted (granting g ∷ es) (after m.state (granting g))
 grant-grants es m g meant ties by k =
     let s = m.state in
     let x = by.stream in
-    let free : x.grant ≡ None = (cases-some (ReadyStream (m.room g.id)) (s.streams g.id) x (lease-ready m g meant by) by.is).0 in
+    let free : x.grant ≡ None = (MatchOption-at_some ⊥ (ReadyStream (m.room g.id)) x by.is (lease-ready m g meant by)).0 in
     let c = paired-some (s.streams g.id) (s.gate.stream g.id) x (ties.paired g.id) by.is in
     let unheld : c.0.held ≡ None = is_none c.0.held (c.2 ∙ ap is_some free) in
     lease-grants es s (after s (granting g)) g k (ap grant_of by.is ∙ free) by.number refl (holding-held g.id g.octets s.gate.stream c.0 c.1 unheld) (granted-opens s.streams g.id g.number x by.is) refl

@@ -2,9 +2,9 @@
 use Rattle.std.proofs.Common.{◌≡◌, ℕ, ◌+◌, true, false, cond, eqb, List, [], ◌∷◌, Some, Option, sym, refl, ap, ◌∙◌, ⊎_elim, arith, eq-eqb, ne_eqb}
 use Rattle.std.specs.List.{AllByRecursion}
 use Rattle.std.proofs.lemmas.Bool.{cases_eq}
+use Rattle.std.proofs.lemmas.Option.{same_Some}
 use Rattle.model.specs.Histories.{on, without_number, without_stream, total, total_on, times, times_on}
 use Rattle.model.specs.declared.calls.Grant.{Grant}
-use Rattle.model.proofs.Points.{some_same}
 
 -- the grants of one stream go
 pub total-without : (q : ℕ) (gs : List Grant) → total (without_stream q gs) + total_on q gs ≡ total gs
@@ -54,7 +54,7 @@ number-stream o id n (g ∷ gs) e d h =
     rw (t, u) (number-stream o id n gs e d h.1))
     (λ m.
     let t : eqb g.number n ≡ false = ne_eqb g.number n m in
-    let u : eqb id g.id ≡ false = ne_eqb id g.id (λ i. m (some_same g.number n (sym h.0 ∙ ap o (sym i) ∙ e))) in
+    let u : eqb id g.id ≡ false = ne_eqb id g.id (λ i. m (same_Some g.number n (sym h.0 ∙ ap o (sym i) ∙ e))) in
     rw (t, u) (ap (λ zs. g ∷ zs) (number-stream o id n gs e d h.1)))
     (cases_eq g.number n)
 

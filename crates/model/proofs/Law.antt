@@ -2,6 +2,7 @@
 use Rattle.std.proofs.Common.{◌≡◌, ℕ, ◌+◌, ◌<◌, ◌≤◌, true, false, List, [], ◌∷◌, is_some, is_ok, Some, None, Option, sym, refl, ap, ◌∙◌, subst, arith, MatchOption}
 use Rattle.std.proofs.lemmas.Int.{ints}
 use Rattle.std.proofs.lemmas.Bool.{true≢false}
+use Rattle.std.proofs.lemmas.Option.{same_Some}
 use Rattle.wire.specs.Urgencies.{urgency_number}
 use Rattle.wire.specs.declared.priorities.Priority.{Priority}
 use Rattle.schedule.specs.Ranks.{Least, Chosen}
@@ -13,7 +14,7 @@ use Rattle.model.specs.Histories.{History, start, call, Tale, tale_of, open_in, 
 use Rattle.model.specs.Laws.{Meant, Fresh, Runs, EachWithin, Balances, Law, FairGrant, FairLease, Fair, Every-run, GoesOn, Steps}
 use Rattle.model.specs.Rules.{Answers, dead, leases, used_up, none_ready, leased, Ready, ReadyStream, grantable}
 use Rattle.model.specs.declared.calls.Grant.{Grant}
-use Rattle.model.proofs.Points.{none-some, some_is, some_of, some_same, cases-is, cases_of}
+use Rattle.model.proofs.Points.{none-some, some_is, some_of, cases-is, cases_of}
 use Rattle.model.proofs.Effects.{Effect, Leases, quiet, ends, raises, renews, closes, ranks, starts, skips, queues, grants, sends, backs, effect}
 use Rattle.model.proofs.Ties.{Ties, ties-after, ties-fresh, tied_of}
 use Rattle.model.proofs.Windows.{Money, Window, money-after, money-fresh, within-after}
@@ -83,7 +84,7 @@ only-leases m e g (ranks id p is) i = absurd (none-some None g refl i)
 only-leases m e g (starts id p above) i = absurd (none-some None g refl i)
 only-leases m e g (skips id above) i = absurd (none-some None g refl i)
 only-leases m e g (queues id n end is) i = absurd (none-some None g refl i)
-only-leases m e g (grants k by) i = subst (Leases m) (some_same k g i) by
+only-leases m e g (grants k by) i = subst (Leases m) (same_Some k g i) by
 only-leases m e g (sends number id n end x holds fits) i = absurd (none-some None g refl i)
 only-leases m e g (backs number id x holds) i = absurd (none-some None g refl i)
 
@@ -100,7 +101,7 @@ least-of m ids id e meant = at (m.picks ids) e (meant.choice ids)
   where
     at : (o : Option ℕ) → o ≡ Some id → Least m.state.ranks ids o → Chosen m.state.ranks ids id
     at None i l = absurd (none-some None id refl i)
-    at (Some j) i l = subst (Chosen m.state.ranks ids) (some_same j id i) l
+    at (Some j) i l = subst (Chosen m.state.ranks ids) (same_Some j id i) l
 
 fair-grant : (es : Tale) (m : Moment) (g : Grant) → Meant m → Ties es m.state → Leases m g → FairGrant es m g
 fair-grant es m g meant ties by =
@@ -113,7 +114,7 @@ fair-grant es m g meant ties by =
       least = λ q other.
           let theirs = ready-ranked es m q ties other in
           let order : urgency_number chosen.priority.urgency ≤ urgency_number theirs.0.urgency = chosen.least q theirs.0 (by.ready.all q other) theirs.1 in
-          let same : chosen.priority ≡ mine.0 = some_same chosen.priority mine.0 (sym chosen.is_in ∙ mine.1) in
+          let same : chosen.priority ≡ mine.0 = same_Some chosen.priority mine.0 (sym chosen.is_in ∙ mine.1) in
           rw (mine.2, theirs.2) (subst (λ (p : Priority). urgency_number p.urgency ≤ urgency_number theirs.0.urgency) same order);
       length = cases_of (λ x. g.octets ≡ grantable m g.id x) (m.state.streams g.id) by.stream by.is by.octets;
     }

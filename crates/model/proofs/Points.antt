@@ -58,17 +58,9 @@ pub some_of : {X : Type 0} (o : Option X) → is_some o ≡ true → (x : X) × 
 some_of None e = absurd (true≢false (sym e))
 some_of (Some x) e = (x, refl)
 
-pub some_same : {X : Type 0} (x y : X) → ◌≡◌ {A = Option X} (Some x) (Some y) → x ≡ y
-some_same x y e = cc
-
 pub some_mapped : {X Y : Type 0} (f : X → Y) (o : Option X) → is_some (option_map f o) ≡ is_some o
 some_mapped f None = refl
 some_mapped f (Some x) = refl
-
--- what is told by cases is told of what is there
-pub cases-some : {X : Type 0} (P : X → Type 0) (o : Option X) (x : X) → MatchOption o ⊥ P → o ≡ Some x → P x
-cases-some P None x h e = absurd h
-cases-some P (Some y) x h e = subst P (some_same y x e) h
 
 pub cases_of : {X : Type 0} (P : X → Type 0) (o : Option X) (x : X) → o ≡ Some x → P x → MatchOption o ⊥ P
 cases_of P o x e h = rw e h

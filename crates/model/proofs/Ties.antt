@@ -3,6 +3,8 @@ use Rattle.std.proofs.Common.{◌≡◌, ℕ, ◌+◌, ◌-◌, ◌<◌, Bool, t
 use Rattle.std.specs.Option.{option_map}
 use Rattle.std.specs.Map.{update}
 use Rattle.std.proofs.lemmas.Bool.{false≢true}
+use Rattle.std.proofs.lemmas.Option.{same_Some}
+use Rattle.std.proofs.lemmas.Iterator.Adapters.{option_map_id}
 use Rattle.credit.specs.Credit.{Credit, Meaning}
 use Rattle.credit.specs.Calls.{raise, initial, raised, shifted, holding, spent, with_stream}
 use Rattle.credit.specs.Calls.{after as credit-after}
@@ -11,7 +13,7 @@ use Rattle.model.specs.Happenings.{Happening, closing, after, upon, queued, gran
 use Rattle.model.specs.Histories.{Tale, open_in, priority_in, frame_size_in, given_in, live_in}
 use Rattle.model.specs.Laws.{Fresh}
 use Rattle.model.specs.Rules.{IsOpen}
-use Rattle.model.proofs.Points.{either-way, at_each, at_both, none-some, some_is, none_is, is_none, some_same, some_mapped}
+use Rattle.model.proofs.Points.{either-way, at_each, at_both, none-some, some_is, none_is, is_none, some_mapped}
 use Rattle.model.proofs.Effects.{Effect, quiet, ends, raises, renews, closes, ranks, starts, skips, queues, grants, sends, backs}
 
 -- a settle that closes nothing
@@ -39,7 +41,7 @@ tied_of es s k = record { paired = k.paired; ranked = k.ranked; below = k.below;
 pub paired-some : (o : Option Stream) (c : Option Credit) (x : Stream) → Paired o c → o ≡ Some x → (d : Credit) × (c ≡ Some d) × (is_some d.held ≡ is_some x.grant)
 paired-some None c x h e = absurd (none-some None x refl e)
 paired-some (Some y) None x h e = absurd h
-paired-some (Some y) (Some d) x h e = (d, refl, h ∙ ap (λ z. is_some z.grant) (some_same y x e))
+paired-some (Some y) (Some d) x h e = (d, refl, h ∙ ap (λ z. is_some z.grant) (same_Some y x e))
 
 pub paired_none : (o : Option Stream) (c : Option Credit) → Paired o c → o ≡ None → c ≡ None
 paired_none None None h e = refl
@@ -58,16 +60,12 @@ same-held f g p q None (Some c) h = h
 same-held f g p q (Some x) None h = h
 same-held f g p q (Some x) (Some c) h = ap is_some (q c) ∙ h ∙ sym (ap is_some (p x))
 
-mapped-same : {X : Type 0} (o : Option X) → option_map (λ x. x) o ≡ o
-mapped-same None = refl
-mapped-same (Some x) = refl
-
 -- one of the two changes, and what is held stays
 credit-held : (g : Credit → Credit) → ((c : Credit) → (g c).held ≡ c.held) → (o : Option Stream) (c : Option Credit) → Paired o c → Paired o (option_map g c)
-credit-held g q o c h = subst (λ u. Paired u (option_map g c)) (mapped-same o) (same-held (λ x. x) g (λ x. refl) q o c h)
+credit-held g q o c h = subst (λ u. Paired u (option_map g c)) (option_map_id o) (same-held (λ x. x) g (λ x. refl) q o c h)
 
 stream-held : (f : Stream → Stream) → ((x : Stream) → (f x).grant ≡ x.grant) → (o : Option Stream) (c : Option Credit) → Paired o c → Paired (option_map f o) c
-stream-held f p o c h = subst (λ u. Paired (option_map f o) u) (mapped-same c) (same-held f (λ d. d) p (λ d. refl) o c h)
+stream-held f p o c h = subst (λ u. Paired (option_map f o) u) (option_map_id c) (same-held f (λ d. d) p (λ d. refl) o c h)
 
 -- both hold from now on, or neither does
 now-held : (number n : ℕ) (o : Option Stream) (c : Option Credit) → Paired o c → Paired (option_map (granted number) o) (option_map (holding n) c)

@@ -1,7 +1,8 @@
 -- The record of one open stream is lent and changed.
-use Rattle.std.proofs.Common.{◌≡◌, ℕ, ◌+◌, Bool, false, ◌||◌, eqb, List, map, length, set, Some, None, Ok, Err, Option, Result, sym, refl, ap, ◌∙◌, ⊎_elim, length-set}
+use Rattle.std.proofs.Common.{◌≡◌, ℕ, ◌+◌, Bool, false, ◌||◌, eqb, List, map, length, set, Some, Ok, Err, Result, sym, refl, ap, ◌∙◌, ⊎_elim, length-set}
 use Rattle.std.specs.Option.{option_map}
 use Rattle.std.specs.Map.{update}
+use Rattle.std.proofs.lemmas.Iterator.Adapters.{option_map_id}
 use Rattle.records.specs.Records.{seek}
 use Rattle.records.specs.Tables.{Is}
 use Rattle.records.proofs.Lookups.{record-found}
@@ -19,10 +20,6 @@ use Rattle.sender.specs.Streams.{id_of, plain, streams_in}
 use Rattle.sender.specs.declared.streams.Stream.{Stream as Row}
 use Rattle.sender.proofs.Moves.{same-state}
 use Rattle.sender.proofs.Rows.{streams-set}
-
-mapped-same : {X : Type 0} (o : Option X) → option_map (λ z. z) o ≡ o
-mapped-same None = refl
-mapped-same (Some z) = refl
 
 module _ (s : State) (xs : List Row) (streams : s.streams ≡ streams_in xs) (many : s.many ≡ length xs) (id : ℕ) (x : Row) (is : Is id_of xs id x) where
   -- the stream's record
@@ -44,7 +41,7 @@ module _ (s : State) (xs : List Row) (streams : s.streams ≡ streams_in xs) (ma
   pub unchanged : (y : Row) → y ≡ x → with_row y ≡ s
   unchanged y same =
       same-state refl refl
-      (λ q. changed-streams y (λ z. z) (ap id_of same ∙ is.named) (ap plain same) q ∙ at_each (λ k o. o ≡ s.streams k) s.streams id (option_map (λ z. z) (s.streams id)) (mapped-same (s.streams id)) (λ k n. refl) q)
+      (λ q. changed-streams y (λ z. z) (ap id_of same ∙ is.named) (ap plain same) q ∙ at_each (λ k o. o ≡ s.streams k) s.streams id (option_map (λ z. z) (s.streams id)) (option_map_id (s.streams id)) (λ k n. refl) q)
       (same-many y) refl refl refl
 
   pub offers-state : (n : ℕ) (end : Bool) (r : Result Done Fault) (y : Row) → Offers x n end r y → AnswersOffer s id n end r × (with_row y ≡ after s (happened (offer id n end) r))
