@@ -1,3 +1,4 @@
 pub mod Ids
 pub mod Rows
 pub mod Lookups
+pub mod Lent

@@ -5,7 +5,6 @@ ghost use Rattle.std.specs.Vec.{with_item};
 ghost use Rattle.std.specs.Option.{ghost_name_of as name_of};
 ghost use Rattle.records.specs.Records.{Finds, seek};
 ghost use Rattle.records.specs.Tables.{Found, FoundMut, without, Taken};
-ghost use Rattle.records.specs.contracts.tables.Table.{the_row};
 
 use crate::lookup::{Record, find};
 use std::alloc::{AllocError, Global};
@@ -13,16 +12,20 @@ use std::alloc::{AllocError, Global};
 // The most records that a table holds.
 const LIMIT: usize = 64;
 
-// A plain table: nothing is promised of it but what its calls say.
+// A table holds at most 64 records, and has the memory for as many.
 #[derive(Drop)]
 pub struct Table<R> {
     pub rows: Vec<R>,
+    ghost roomy: { (vec_len rows ≤ 64) × (64 ≤ vec_capacity rows) },
 }
 
 impl<R: Record + Drop> Table<R> {
+    ghost use Rattle.records.specs.Lending.{with_row};
+    ghost use Rattle.records.specs.contracts.tables.Table.{the_row};
+
     // An empty table, with the memory for 64 records; only here can memory be wanting.
     pub fn new(heap: Global) -> Result<Table<R>, AllocError>
-        ensures { IfOk result (λ t. (t.rows.items ≡ []) × (64 ≤ vec_capacity t.rows)) }
+        ensures { IfOk result (λ t. t.rows.items ≡ []) }
     {
         let rows = Vec::with_capacity(heap, LIMIT)?;
         Ok(Table { rows })
@@ -52,7 +55,7 @@ impl<R: Record + Drop> Table<R> {
 
     // Lends the record with the id, to be changed; the table follows it.
     pub fn get_mut(&mut self, id: u32) -> Option<&mut R>
-        ensures* follows { sem 𝓛 (follows_if (the_row R.row) R.row self.entry.ghost_name (name_of result) (λ w. record { rows = with_item self.old.rows (seek (map R.Record.key self.old.rows.items) id) w }) self.old) }
+        ensures* follows { sem 𝓛 (follows_if (the_row R.row) R.row self.entry.ghost_name (name_of result) (with_row self.old (seek (map R.Record.key self.old.rows.items) id)) self.old) }
         ensures finds { FoundMut R.Record.key self.old.rows.items id result }
     {
         let i = self.place(id)?;
@@ -61,11 +64,11 @@ impl<R: Record + Drop> Table<R> {
 
     // Adds a record behind the others; false where the table is full.
     pub fn add(&mut self, row: R) -> bool
-        ensures answers { result ≡ nat_lt (length self.old.rows.items) (min 64 (vec_capacity self.old.rows)) }
+        ensures answers { result ≡ nat_lt (length self.old.rows.items) 64 }
         ensures rows { self.new.rows.items ≡ (if result then self.old.rows.items ++ row ∷ [] else self.old.rows.items) }
         ensures memory { vec_capacity self.new.rows ≡ vec_capacity self.old.rows }
     {
-        if self.len() >= LIMIT.min(self.rows.capacity()) {
+        if self.len() >= LIMIT {
             return false;
         }
         self.rows.push_reserved(row);
