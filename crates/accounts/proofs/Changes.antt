@@ -36,7 +36,7 @@ module _ (b i c t : ℕ) (rows : List Account) (id : ℕ) (x : Account) (is : Is
   pub unchanged : (y : Account) → y ≡ x → changed y ≡ rows
   unchanged y e = ap changed (e ∙ is.at) ∙ set-get_or rows (seek (ids rows) id) x
 
-  pub as_many : (y : Account) → length (changed y) ≡ length rows
+  as_many : (y : Account) → length (changed y) ≡ length rows
   as_many y = length-set rows (seek (ids rows) id) y
 
   -- the meaning with the changed account's credit
@@ -122,9 +122,6 @@ module _ (b i c t : ℕ) (rows : List Account) (id : ℕ) (x : Account) (is : Is
 
   pub finish-held : held_in (without id_of id rows) + amount x.held ≡ held_in rows
   finish-held = held-without rows id x is.there is.at
-
-  pub one_less : length (without id_of id rows) + 1 ≡ length rows
-  one_less = length_without rows id is.there
 
 -- begin
 module _ (b i c t id : ℕ) (rows : List Account) (y : Account) (named : y.id ≡ id) (whole : (y.balance +ℤ pos b) ≡ pos i) (free : y.held ≡ None) (none : stream_in b rows id ≡ None) where

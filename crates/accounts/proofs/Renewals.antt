@@ -1,9 +1,11 @@
 -- What a new initial window makes of the books.
-use Rattle.std.proofs.Common.{◌≡◌, ℕ, ◌+◌, ◌≤◌, false, List, [], ◌∷◌, ◌++◌, map, length, take, drop, pos, ◌+ℤ◌, ◌-ℤ◌, ◌≤ℤ◌, is_some, IfSome, Some, None, Option, sym, refl, ap, ◌∙◌, subst, ⊎_elim, map-id, arith, eq-eqb, ne_eqb}
+use Rattle.std.proofs.Common.{◌≡◌, ℕ, ◌+◌, ◌<◌, ◌≤◌, Bool, true, false, MatchBool, Decides, List, [], ◌∷◌, ◌++◌, map, length, take, drop, pos, ◌+ℤ◌, ◌-ℤ◌, ◌≤ℤ◌, is_some, IfSome, Some, None, Option, sym, refl, ap, ◌∙◌, subst, ⊎_elim, map-id, arith, eq-eqb, ne_eqb}
 use mathlib.Core.Path.{fun_ext}
 use Rattle.std.specs.Option.{option_map}
-use Rattle.std.specs.List.{AllByRecursion}
-use Rattle.std.proofs.lemmas.Bool.{cases_eq}
+use Rattle.std.specs.List.{AllByRecursion, AllWithin, HoldsAt}
+use Rattle.std.proofs.lemmas.Iterator.Search.{true_from_All}
+use Rattle.std.proofs.lemmas.List.Elements.{All-from_recursion, recursion_from_All}
+use Rattle.std.proofs.lemmas.Bool.{cases_eq, false≢true}
 use Rattle.std.proofs.lemmas.Int.{ints}
 use Rattle.std.proofs.lemmas.List.{length-map, take_at}
 use Rattle.credit.specs.Credit.{Credit, MAX, amount}
@@ -14,6 +16,11 @@ use Rattle.accounts.specs.declared.storages.Storage.{Storage}
 use Rattle.accounts.specs.declared.storages.Storage.TheVariants.{Direct, Offset}
 use Rattle.accounts.specs.Storages.{base_of, renewed_by, Renewable}
 use Rattle.accounts.proofs.Streams.{none_from}
+
+-- an answer for all accounts, which `all` gave, decides that each has the property
+pub decides-all : (P : Account → Type 0) (r : Bool) (rows : List Account) → MatchBool r (AllWithin P rows 0 (length rows)) ((k : ℕ) × (k < length rows) × HoldsAt (λ a. P a → ⊥) rows k) → Decides r (AllByRecursion P rows)
+decides-all P true rows m = (λ e. recursion_from_All P rows (λ k d l. m k d (omega arith) l), λ h. refl)
+decides-all P false rows m = (λ e. absurd (false≢true e), λ h. true_from_All P (λ a. P a → ⊥) false rows (λ a p n. n p) m (All-from_recursion P rows h))
 
 -- the initial window goes from i to v, the accounts' base from b to e, and each account to its image under f; p is what i is above b
 module _ (b e i v p : ℕ) (f : Account → Account) (above : p + b ≡ i) (same_id : (a : Account) → (f a).id ≡ a.id) (moves : (a : Account) → credit_at e (f a) ≡ shifted i v (credit_at b a)) where

@@ -1,7 +1,7 @@
 // One stream's account: what is stored of its window, and what it holds.
 ghost use Rattle.std.specs.Prelude.{◌≡◌, ℕ, ◌+◌, ◌<◌, ◌≤◌, true, pos, ◌+ℤ◌, ◌≤ℤ◌, if◌then◌else◌, None, Decides, MatchOption};
 ghost use Rattle.credit.specs.Credit.{amount, left, at_least_0};
-ghost use Rattle.accounts.specs.Accounts.{credit_at, raised_by, holding_now, spent_by, shifted_by, Fits, InRange, InBounds};
+ghost use Rattle.accounts.specs.Accounts.{credit_at, raised_by, holding_now, spent_by, InBounds};
 
 use records::Record;
 
@@ -29,10 +29,7 @@ impl Account {
     pub(crate) fn amount(&self) -> u32
         ensures { result ≡ amount self.now.held }
     {
-        match self.held {
-            Some(n) => n,
-            None => 0,
-        }
+        self.held.unwrap_or(0)
     }
 
     // The window over a base.
@@ -40,7 +37,7 @@ impl Account {
         requires { InBounds (credit_at base self.now) }
         ensures { result ≡ (credit_at base self.now).window }
     {
-        (self.balance as i64 + base as i64) as i32
+        (i64::from(self.balance) + i64::from(base)) as i32
     }
 
     // The larger of 0 and what is left of the window over a base.
@@ -48,8 +45,8 @@ impl Account {
         requires { base ≤ 2147483647 }
         ensures { result ≡ at_least_0 (left (credit_at base self.now)) }
     {
-        let left = self.balance as i64 + base as i64 - self.amount() as i64;
-        if left > 0 { left as u32 } else { 0 }
+        let left = i64::from(self.balance) + i64::from(base) - i64::from(self.amount());
+        left.max(0) as u32
     }
 
     // Adds to the window over a base, unless it would pass MAX.
@@ -57,8 +54,8 @@ impl Account {
         ensures answers { Decides result (((credit_at base self.old).window +ℤ pos v) ≤ℤ pos 2147483647) }
         ensures leaves { self.new ≡ (if result then raised_by v self.old else self.old) }
     {
-        let raised = self.balance as i64 + v as i64;
-        if raised + base as i64 > MAX as i64 {
+        let raised = i64::from(self.balance) + i64::from(v);
+        if raised + i64::from(base) > i64::from(MAX) {
             return false;
         }
         self.balance = raised as i32;
@@ -67,13 +64,11 @@ impl Account {
 
     // Holds an amount, unless one is held or it exceeds what is left of the window over a base.
     pub(crate) fn hold(&mut self, base: u32, n: u32) -> bool
+        requires { base ≤ 2147483647 }
         ensures answers { Decides result ((self.old.held ≡ None) × (n ≤ at_least_0 (left (credit_at base self.old)))) }
         ensures leaves { self.new ≡ (if result then holding_now n self.old else self.old) }
     {
-        if let Some(_) = self.held {
-            return false;
-        }
-        if n as i64 > self.balance as i64 + base as i64 && n > 0 {
+        if self.held.is_some() || n > self.spare(base) {
             return false;
         }
         self.held = Some(n);
@@ -84,13 +79,9 @@ impl Account {
     fn can_spend(&self, base: u32, n: u32) -> bool
         ensures { Decides result (MatchOption self.now.held ⊥ (λ k. (n ≤ k) × (0 < n → pos n ≤ℤ (credit_at base self.now).window))) }
     {
-        let Some(k) = self.held else {
-            return false;
-        };
-        if n > k {
-            return false;
-        }
-        n == 0 || n as i64 <= self.balance as i64 + base as i64
+        let window = i64::from(self.balance) + i64::from(base);
+        self.held
+            .is_some_and(|held| n <= held && (n == 0 || i64::from(n) <= window))
     }
 
     // Takes octets off the window and lets go what is held, where they can be spent.
@@ -102,31 +93,8 @@ impl Account {
         if !self.can_spend(base, n) {
             return false;
         }
-        self.balance = (self.balance as i64 - n as i64) as i32;
+        self.balance = (i64::from(self.balance) - i64::from(n)) as i32;
         self.held = None;
         true
-    }
-
-    // Whether the balance does not pass MAX when it takes up a new initial window.
-    pub(crate) fn fits(&self, before: u32, v: u32) -> bool
-        ensures { Decides result (Fits before v self.now) }
-    {
-        if self.balance as i64 + v as i64 > MAX as i64 + before as i64 {
-            return false;
-        }
-        true
-    }
-
-    // The account whose balance takes up a new initial window.
-    pub(crate) fn shifted(&self, before: u32, v: u32) -> Account
-        requires { InRange before v self.now }
-        ensures { result ≡ shifted_by before v self.now }
-    {
-        let balance = self.balance as i64 + v as i64 - before as i64;
-        Account {
-            id: self.id,
-            balance: balance as i32,
-            held: self.held,
-        }
     }
 }

@@ -3,7 +3,7 @@ ghost use Rattle.credit.specs.Calls.{begin, finish, raise, initial, hold, spend}
 ghost use Rattle.accounts.specs.Books.{Kept};
 
 use crate::accounts_of_streams::{Account, MAX};
-use crate::all_accounts::{all_fit, renew_all};
+use crate::all_accounts::Renewal;
 use crate::bookkeeping::Books;
 
 impl Books {
@@ -11,13 +11,10 @@ impl Books {
     pub fn begin(&mut self, id: u32) -> bool
         ensures { Kept (begin id) self.old result self.new }
     {
-        if id == 0 {
+        if id == 0 || self.table.get(id).is_some() {
             return false;
         }
-        if let Some(_) = self.table.get(id) {
-            return false;
-        }
-        let balance = (self.initial - self.storage.base(self.initial)) as i32;
+        let balance = (self.initial - self.base()) as i32;
         self.table.add(Account {
             id,
             balance,
@@ -29,13 +26,11 @@ impl Books {
     pub fn finish(&mut self, id: u32) -> bool
         ensures { Kept (finish id) self.old result self.new }
     {
-        match self.table.remove(id) {
-            None => false,
-            Some(account) => {
-                self.held -= account.amount();
-                true
-            }
-        }
+        let Some(account) = self.table.remove(id) else {
+            return false;
+        };
+        self.held -= account.amount();
+        true
     }
 
     // Adds to a stream's window, at 0 to the connection's.
@@ -49,11 +44,11 @@ impl Books {
             self.connection += v;
             return true;
         }
-        let base = self.storage.base(self.initial);
-        match self.table.get_mut(id) {
-            None => false,
-            Some(account) => account.raise(base, v),
-        }
+        let base = self.base();
+        let Some(account) = self.table.get_mut(id) else {
+            return false;
+        };
+        account.raise(base, v)
     }
 
     // Sets the initial window, and moves every stream's window by the difference.
@@ -63,11 +58,14 @@ impl Books {
         if v > MAX {
             return false;
         }
-        let before = self.initial - self.storage.base(self.initial);
-        if !all_fit(self.table.rows.as_slice(), before, v) {
+        let renewal = Renewal {
+            before: self.initial - self.base(),
+            after: v,
+        };
+        if !renewal.all_fit(self.table.rows.as_slice()) {
             return false;
         }
-        renew_all(self.storage, self.table.rows.as_mut_slice(), before, v);
+        renewal.renew_all(self.storage, self.table.rows.as_mut_slice());
         self.initial = v;
         true
     }
@@ -79,37 +77,31 @@ impl Books {
         if n > self.connection - self.held {
             return false;
         }
-        let base = self.storage.base(self.initial);
-        match self.table.get_mut(id) {
-            None => false,
-            Some(account) => {
-                if account.hold(base, n) {
-                    self.held += n;
-                    true
-                } else {
-                    false
-                }
-            }
+        let base = self.base();
+        let Some(account) = self.table.get_mut(id) else {
+            return false;
+        };
+        if !account.hold(base, n) {
+            return false;
         }
+        self.held += n;
+        true
     }
 
     // Takes octets off both windows, and lets go what the stream holds.
     pub fn spend(&mut self, id: u32, n: u32) -> bool
         ensures { Kept (spend id n) self.old result self.new }
     {
-        let base = self.storage.base(self.initial);
-        match self.table.get_mut(id) {
-            None => false,
-            Some(account) => {
-                let amount = account.amount();
-                if account.spend(base, n) {
-                    self.connection -= n;
-                    self.held -= amount;
-                    true
-                } else {
-                    false
-                }
-            }
+        let base = self.base();
+        let Some(account) = self.table.get_mut(id) else {
+            return false;
+        };
+        let amount = account.amount();
+        if !account.spend(base, n) {
+            return false;
         }
+        self.connection -= n;
+        self.held -= amount;
+        true
     }
 }

@@ -27,32 +27,25 @@ impl Books {
     pub fn room(&self, id: u32) -> u32
         ensures { result ≡ most_room (meaning_of self.now) id }
     {
-        match self.table.get(id) {
-            None => 0,
-            Some(account) => account
-                .spare(self.storage.base(self.initial))
-                .min(self.connection - self.held),
-        }
+        let Some(account) = self.table.get(id) else {
+            return 0;
+        };
+        account.spare(self.base()).min(self.connection - self.held)
     }
 
     // A stream's window; none where it is not begun.
     pub fn window(&self, id: u32) -> Option<i32>
         ensures { result ≡ window_of ((meaning_of self.now).stream id) }
     {
-        match self.table.get(id) {
-            None => None,
-            Some(account) => Some(account.window(self.storage.base(self.initial))),
-        }
+        let account = self.table.get(id)?;
+        Some(account.window(self.base()))
     }
 
     // What a stream holds; none where it holds nothing or is not begun.
     pub fn held(&self, id: u32) -> Option<u32>
         ensures { result ≡ held_of ((meaning_of self.now).stream id) }
     {
-        match self.table.get(id) {
-            None => None,
-            Some(account) => account.held,
-        }
+        self.table.get(id)?.held
     }
 
     pub fn initial_window(&self) -> u32

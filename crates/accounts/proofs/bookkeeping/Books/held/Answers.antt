@@ -1,14 +1,10 @@
-use Rattle.std.proofs.Common.{vec_items, refl}
-use Rattle.accounts.specs.Storages.{base_of}
+use Rattle.std.proofs.Common.{refl}
+use Rattle.accounts.proofs.Settlements.{base, rows_of}
 use Rattle.accounts.proofs.Streams.{stream-absent, stream-found}
 use Rattle.accounts.proofs.bookkeeping.Books.held.Goals as goal
 
-pub returns-in-None : goal.returns-in-None
-returns-in-None c =
-    let s = c.args.self.now in
-    rw (stream-absent (base_of s.storage s.initial) (vec_items s.table.rows) c.args.id c.in-None.ensures) refl
+pub returns-in_err-get : goal.returns-in_err-get
+returns-in_err-get c = rw (stream-absent (base c.args.self.now) (rows_of c.args.self.now) c.args.id c.in_err-get.ensures) c.from_residual.ensures
 
-pub returns-in-Some : goal.returns-in-Some
-returns-in-Some c =
-    let s = c.args.self.now in
-    rw (stream-found (base_of s.storage s.initial) (vec_items s.table.rows) c.args.id c.in-Some.account.now c.in-Some.ensures) refl
+pub returns : goal.returns
+returns c = rw (stream-found (base c.args.self.now) (rows_of c.args.self.now) c.args.id c.in_ok-get.field-0.now c.in_ok-get.ensures) refl
