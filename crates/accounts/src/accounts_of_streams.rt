@@ -64,11 +64,11 @@ impl Account {
 
     // Holds an amount, unless one is held or it exceeds what is left of the window over a base.
     pub(crate) fn hold(&mut self, base: u32, n: u32) -> bool
-        requires { base ≤ 2147483647 }
         ensures answers { Decides result ((self.old.held ≡ None) × (n ≤ at_least_0 (left (credit_at base self.old)))) }
         ensures leaves { self.new ≡ (if result then holding_now n self.old else self.old) }
     {
-        if self.held.is_some() || n > self.spare(base) {
+        let left = i64::from(self.balance) + i64::from(base);
+        if self.held.is_some() || i64::from(n) > left.max(0) {
             return false;
         }
         self.held = Some(n);

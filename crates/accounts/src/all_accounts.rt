@@ -57,6 +57,7 @@ impl Renewal {
         requires { Renewable storage self.now.before self.now.after accounts.old }
         ensures { accounts.new ≡ renewed_by storage self.now.before self.now.after accounts.old }
     {
+        // A closure or a type parameter would carry both steps into every proof on the books.
         match storage {
             Storage::Direct => self.shift_all(accounts),
             Storage::Offset => {}
