@@ -60,7 +60,7 @@ module _ (at : ℕ → Option Standing) (apart : (p q : ℕ) (s : Standing) → 
         listed = listed-still ids id b f.listed;
         stands = f.stands;
         is = f.is;
-        first = λ q t l s. ⊎_elim (λ h. f.first q t h s) (λ same. absurd (let n : at q ≡ None = ap at (sym same) ∙ e in let z : ◌≡◌ {A = ℕ} 0 1 = cc in omega arith)) (listed-push ids id q l);
+        first = λ q t l s. ⊎_elim (λ h. f.first q t h s) (λ same. absurd (let n : at q ≡ None = ap at (sym same) ∙ e in cc)) (listed-push ids id q l);
       }
 
   -- the first id that stands somewhere is the best so far
@@ -70,7 +70,7 @@ module _ (at : ℕ → Option Standing) (apart : (p q : ℕ) (s : Standing) → 
         listed = listed-last ids id;
         stands = s;
         is = e;
-        first = λ q t l u. ⊎_elim (λ h. absurd (let n : at q ≡ None = f q h in let z : ◌≡◌ {A = ℕ} 0 1 = cc in omega arith)) (λ same. inl (sym same)) (listed-push ids id q l);
+        first = λ q t l u. ⊎_elim (λ h. absurd (let n : at q ≡ None = f q h in cc)) (λ same. inl (sym same)) (listed-push ids id q l);
       }
 
   -- an id that comes before the best so far takes its place

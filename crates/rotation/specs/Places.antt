@@ -33,7 +33,7 @@ seat-found xs id x is = found xs id x is.there is.at
 
 -- a seat that was found has the id
 pub seat-named : (xs : List Seat) (id : ℕ) (x : Seat) → seat_of xs id ≡ Some x → x.id ≡ id
-seat-named [] id x = λ e. absurd (let z : ◌≡◌ {A = ℕ} 0 1 = cc in omega arith)
+seat-named [] id x = λ e. absurd cc
 seat-named (y ∷ xs) id x =
     ⊎_elim
     (λ s. rw (eq-eqb y.id id s) (λ e. let m : y ≡ x = cc in ap id_of (sym m) ∙ s))
@@ -42,7 +42,7 @@ seat-named (y ∷ xs) id x =
 
 -- seats at one place have one id
 place-apart : (xs : List Seat) (p q : ℕ) (a b : Seat) → seat_of xs p ≡ Some a → seat_of xs q ≡ Some b → seek (map id_of xs) p ≡ seek (map id_of xs) q → p ≡ q
-place-apart [] p q a b = λ e f same. absurd (let z : ◌≡◌ {A = ℕ} 0 1 = cc in omega arith)
+place-apart [] p q a b = λ e f same. absurd cc
 place-apart (x ∷ xs) p q a b =
     ⊎_elim
     (λ s. rw (eq-eqb x.id p s) (⊎_elim (λ t. rw (eq-eqb x.id q t) (λ e f same. sym s ∙ t)) (λ n. rw (ne_eqb x.id q n) (λ e f same. absurd (omega arith))) (cases_eq x.id q)))
@@ -51,12 +51,12 @@ place-apart (x ∷ xs) p q a b =
 
 -- what a mapped option came from
 pub mapped-some : {X Y : Type 0} (f : X → Y) (o : Option X) (y : Y) → option_map f o ≡ Some y → (x : X) × (o ≡ Some x) × (f x ≡ y)
-mapped-some f None y e = absurd (let z : ◌≡◌ {A = ℕ} 0 1 = cc in omega arith)
+mapped-some f None y e = absurd cc
 mapped-some f (Some x) y e = (x, refl, cc)
 
 pub mapped-none : {X Y : Type 0} (f : X → Y) (o : Option X) → option_map f o ≡ None → o ≡ None
 mapped-none f None e = refl
-mapped-none f (Some x) e = absurd (let z : ◌≡◌ {A = ℕ} 0 1 = cc in omega arith)
+mapped-none f (Some x) e = absurd cc
 
 -- no two ids stand alike, under a rule that tells seats of different ids and places apart
 pub stands-apart : (rule : ℕ → Seat → Standing) → ((i j : ℕ) (a b : Seat) → rule i a ≡ rule j b → (a.id ≡ b.id) ⊎ (i ≡ j))

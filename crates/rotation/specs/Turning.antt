@@ -56,7 +56,7 @@ length-altering [] id p = refl
 length-altering (x ∷ xs) id p = elim (x.id == id) as (λ b. length (cond b (with_priority p x ∷ xs) (x ∷ altering id p xs)) ≡ suc (length xs)) [ true ↦ refl | false ↦ ap suc (length-altering xs id p) ]
 
 pub length_without : (xs : List Seat) (id : ℕ) (x : Seat) → seat_of xs id ≡ Some x → length (without id_of id xs) + 1 ≡ length xs
-length_without [] id x = λ e. absurd (let z : ◌≡◌ {A = ℕ} 0 1 = cc in omega arith)
+length_without [] id x = λ e. absurd cc
 length_without (y ∷ xs) id x =
     ⊎_elim
     (λ s. rw (eq-eqb y.id id s) (λ e. omega arith))
@@ -72,7 +72,7 @@ distinct_push : (xs : List Seat) (x : Seat) → Distinct xs → seat_of xs x.id 
 distinct_push [] x d h = (refl, tt)
 distinct_push (y ∷ xs) x d h =
     ⊎_elim
-    (λ e. absurd (let s : Some y ≡ None = rw (eq-eqb y.id x.id e) at h in let z : ◌≡◌ {A = ℕ} 0 1 = cc in omega arith))
+    (λ e. absurd (let s : Some y ≡ None = rw (eq-eqb y.id x.id e) at h in cc))
     (λ n.
     let t : nat_eq y.id x.id ≡ false = ne_eqb y.id x.id n in
     let further : seat_of xs x.id ≡ None = rw t at h in

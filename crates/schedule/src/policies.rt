@@ -59,9 +59,7 @@ pub fn serve_next<P: Policy>(policy: &mut P, ids: &[u32], octets: u32) -> Option
     ensures answers { result ≡ P.Policy.picks policy.old ids.now }
     ensures serves { ServedNext P.Policy.turned octets policy.old result policy.new }
 {
-    let chosen = policy.choose(ids);
-    if let Some(id) = chosen {
-        policy.served(id, octets);
-    }
-    chosen
+    let id = policy.choose(ids)?;
+    policy.served(id, octets);
+    Some(id)
 }

@@ -29,11 +29,8 @@ fn accepted(call: Call, id: u32, priority: Option<Priority>, entered: u32) -> Ca
 
 fn refused(call: Call, id: u32, priority: Option<Priority>, entered: u32) -> Case {
     Case {
-        call,
         accepted: false,
-        id,
-        priority,
-        entered,
+        ..accepted(call, id, priority, entered)
     }
 }
 

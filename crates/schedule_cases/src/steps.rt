@@ -53,12 +53,10 @@ fn run_step<P: Policy>(
 // Runs the steps in order on a fresh policy of each kind.
 pub(crate) fn run(rt: &impl Abort, heap: Global, steps: &[Step]) -> Result<(), Fail> {
     let mut turns = Turns::new(heap)?;
-    for (call, ids, chosen, _) in steps {
-        run_step(rt, "turns", &mut turns, *call, ids, *chosen);
-    }
     let mut ordered = Ordered::new(heap)?;
-    for (call, ids, _, chosen) in steps {
-        run_step(rt, "ordered", &mut ordered, *call, ids, *chosen);
+    for (call, ids, of_turns, of_ordered) in steps {
+        run_step(rt, "turns", &mut turns, *call, ids, *of_turns);
+        run_step(rt, "ordered", &mut ordered, *call, ids, *of_ordered);
     }
     Ok(())
 }

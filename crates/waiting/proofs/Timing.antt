@@ -1,7 +1,6 @@
 -- An order after a history: the seats that were served are so marked, and stand in the order of their times.
 use Rattle.std.proofs.Common.{◌≡◌, ℕ, ◌<◌, ◌⊎◌, List, [], ◌∷◌, ◌++◌, length, is_some, Some, None, Option, sym, refl, ap, ◌∙◌, subst, inl, inr, ⊎_elim, arith, eq-eqb, ne_eqb}
-use Rattle.std.specs.List.{AllByRecursion as All}
-use Rattle.std.proofs.ByRecursion.{All-push}
+use Rattle.std.specs.List.{AllByRecursion}
 use Rattle.std.proofs.lemmas.Bool.{cases_eq}
 use Rattle.records.specs.Tables.{without}
 use Rattle.schedule.specs.Ranks.{Event, Accepts, after, entered, altered, left, served}
@@ -9,15 +8,9 @@ use Rattle.rotation.specs.declared.seats.Seat.{Seat}
 use Rattle.rotation.specs.Orders.{id_of, seat_of, ranked, Distinct, Kept, new_seat, served_now, to_end, order_after}
 use Rattle.rotation.specs.Places.{seat-named, mapped-none}
 use Rattle.rotation.specs.Turning.{seat-without, gone, kept-after, ranked-after}
-use Rattle.waiting.specs.Histories.{ranks_after, Accepted, last_served}
+use Rattle.waiting.specs.Histories.{ranks_after, Accepted, last_served, Earlier}
 use Rattle.waiting.specs.Waits.{order_of}
-use Rattle.waiting.proofs.Pairs.{Each, all_others, all_both, each_both, each-push, all_without, each-without, all-altering, each-altering}
-
--- a time comes before another, where both are
-abbrev pub Earlier : Option ℕ → Option ℕ → Type 0
-Earlier None u = Unit {0}
-Earlier (Some s) None = Unit {0}
-Earlier (Some s) (Some t) = s < t
+use Rattle.waiting.proofs.Pairs.{Each, all_others, all_both, all-push, each_both, each-push, all_without, each-without, all-altering, each-altering}
 
 -- a seat is marked as served exactly where its id has a time
 abbrev pub Marked : (ℕ → Option ℕ) → Seat → Type 0
@@ -28,13 +21,13 @@ InOrder time x y = Earlier (time x.id) (time y.id)
 
 -- an order agrees with the times
 pub record Timely (time : ℕ → Option ℕ) (xs : List Seat) : Type 0 where
-  pub marked : All (Marked time) xs
+  pub marked : AllByRecursion (Marked time) xs
   pub rising : Each (InOrder time) xs
 
 -- times that differ only at an id that has no seat
 timely-others : (old new : ℕ → Option ℕ) (id : ℕ) (xs : List Seat) → seat_of xs id ≡ None → ((q : ℕ) → (q ≡ id → ⊥) → new q ≡ old q) → Timely old xs → Timely new xs
 timely-others old new id xs none same t =
-    let all : All (λ x. new x.id ≡ old x.id) xs = all_others (λ q. new q ≡ old q) id xs none same in
+    let all : AllByRecursion (λ x. new x.id ≡ old x.id) xs = all_others (λ q. new q ≡ old q) id xs none same in
     record {
       marked = all_both {P = λ x. new x.id ≡ old x.id} {Q = Marked old} {S = Marked new} xs (λ x e m. m ∙ ap is_some (sym e)) all t.marked;
       rising = each_both {Q = λ x. new x.id ≡ old x.id} {R = InOrder old} {S = InOrder new} xs (λ x y e f r. subst (λ u. Earlier u (new y.id)) (sym e) (subst (Earlier (old x.id)) (sym f) r)) all t.rising;
@@ -47,7 +40,7 @@ timely-without time id xs t = record { marked = all_without (Marked time) xs id 
 timely-push : (time : ℕ → Option ℕ) (xs : List Seat) (y : Seat) → Marked time y → ((q : ℕ) → Earlier (time q) (time y.id) ⊎ (q ≡ y.id)) → seat_of xs y.id ≡ None → Timely time xs → Timely time (xs ++ y ∷ [])
 timely-push time xs y mark latest none t =
     record {
-      marked = All-push (Marked time) xs y t.marked mark;
+      marked = all-push (Marked time) xs y t.marked mark;
       rising = each-push (InOrder time) xs y t.rising (all_others (λ q. Earlier (time q) (time y.id)) y.id xs none (λ q n. ⊎_elim (λ e. e) (λ same. absurd (n same)) (latest q)));
     }
 
@@ -57,16 +50,16 @@ never-late (Some s) u e = rw e tt
 
 -- every time is before now
 pub before-now : (history : List Event) (id t : ℕ) → last_served history id ≡ Some t → t < length history
-before-now [] id t = λ e. absurd (let z : ◌≡◌ {A = ℕ} 0 1 = cc in omega arith)
+before-now [] id t = λ e. absurd cc
 before-now (entered q p ∷ history) id t =
     ⊎_elim
-    (λ s. rw (eq-eqb q id s) (λ e. absurd (let z : ◌≡◌ {A = ℕ} 0 1 = cc in omega arith)))
+    (λ s. rw (eq-eqb q id s) (λ e. absurd cc))
     (λ n. rw (ne_eqb q id n) (λ e. omega (arith, before-now history id t e)))
     (cases_eq q id)
 before-now (altered q p ∷ history) id t = λ e. omega (arith, before-now history id t e)
 before-now (left q ∷ history) id t =
     ⊎_elim
-    (λ s. rw (eq-eqb q id s) (λ e. absurd (let z : ◌≡◌ {A = ℕ} 0 1 = cc in omega arith)))
+    (λ s. rw (eq-eqb q id s) (λ e. absurd cc))
     (λ n. rw (ne_eqb q id n) (λ e. omega (arith, before-now history id t e)))
     (cases_eq q id)
 before-now (served q n ∷ history) id t =

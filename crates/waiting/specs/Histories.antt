@@ -1,7 +1,8 @@
 -- What a history of events tells of the ids, by the history alone.
 -- A history is a list of accepted events on a policy of limit 64, the latest first.
-use Rattle.std.specs.Prelude.{ℕ, ◌<◌, cond, List, [], ◌∷◌, length, Some, None, Option, ◌==◌}
+use Rattle.std.specs.Prelude.{◌≡◌, ℕ, ◌<◌, is_some, cond, List, [], ◌∷◌, length, Some, None, Option, ◌==◌}
 use Rattle.schedule.specs.Ranks.{Ranks, fresh, Event, Accepts, after, entered, altered, left, served}
+use Rattle.rotation.specs.declared.seats.Seat.{Seat}
 
 -- which ids are in, and with which priority
 abbrev pub ranks_after : List Event → Ranks
@@ -31,3 +32,15 @@ Longer a (Some s) b (Some t) = s < t
 
 abbrev pub WaitedLonger : List Event → ℕ → ℕ → Type 0
 WaitedLonger history a b = Longer a (last_served history a) b (last_served history b)
+
+-- a time comes before another, where both are
+abbrev pub Earlier : Option ℕ → Option ℕ → Type 0
+Earlier None u = Unit {0}
+Earlier (Some s) None = Unit {0}
+Earlier (Some s) (Some t) = s < t
+
+-- a history placed two seats at i and j: each is marked as served where its id was, and where the one stands ahead its id was served earlier
+pub record Placed (history : List Event) (i j : ℕ) (a b : Seat) : Type 0 where
+  pub one : a.served ≡ is_some (last_served history a.id)
+  pub other : b.served ≡ is_some (last_served history b.id)
+  pub ahead : i < j → Earlier (last_served history a.id) (last_served history b.id)

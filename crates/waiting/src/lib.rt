@@ -4,5 +4,5 @@
 pub mod waits;
 pub mod worked;
 
-pub use waits::{longest_waiting, plain_or_longest_waiting};
+pub use waits::{Waits, foremost, longest_waiting, plain_or_longest_waiting};
 pub use worked::{plain_before_incremental, three_turns};

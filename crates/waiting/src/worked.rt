@@ -6,17 +6,23 @@ use schedule::{Policy, serve_next};
 use std::alloc::{AllocError, Global};
 use wire::{Priority, Urgency};
 
+const PLAIN: Priority = Priority {
+    urgency: Urgency::U3,
+    incremental: false,
+};
+
+const INCREMENTAL: Priority = Priority {
+    urgency: Urgency::U3,
+    incremental: true,
+};
+
 // Two ids of one urgency take turns.
 pub fn three_turns(heap: Global) -> Result<(Option<u32>, Option<u32>, Option<u32>), AllocError>
     ensures { IfOk result (λ a. (a.0 ≡ Some 1) × (a.1 ≡ Some 3) × (a.2 ≡ Some 1)) }
 {
     let mut turns = Turns::new(heap)?;
-    let priority = Priority {
-        urgency: Urgency::U3,
-        incremental: false,
-    };
-    turns.enter(3, priority);
-    turns.enter(1, priority);
+    turns.enter(3, PLAIN);
+    turns.enter(1, PLAIN);
     let first = serve_next(&mut turns, &[3, 1], 100);
     let second = serve_next(&mut turns, &[3, 1], 100);
     let third = serve_next(&mut turns, &[3, 1], 100);
@@ -28,20 +34,8 @@ pub fn plain_before_incremental(heap: Global) -> Result<(Option<u32>, Option<u32
     ensures { IfOk result (λ a. (a.0 ≡ Some 3) × (a.1 ≡ Some 3)) }
 {
     let mut ordered = Ordered::new(heap)?;
-    ordered.enter(
-        1,
-        Priority {
-            urgency: Urgency::U3,
-            incremental: true,
-        },
-    );
-    ordered.enter(
-        3,
-        Priority {
-            urgency: Urgency::U3,
-            incremental: false,
-        },
-    );
+    ordered.enter(1, INCREMENTAL);
+    ordered.enter(3, PLAIN);
     let first = serve_next(&mut ordered, &[1, 3], 100);
     let second = serve_next(&mut ordered, &[1, 3], 100);
     Ok((first, second))
