@@ -23,10 +23,8 @@ pub fn three_turns(heap: Global) -> Result<(Option<u32>, Option<u32>, Option<u32
     let mut turns = Turns::new(heap)?;
     turns.enter(3, PLAIN);
     turns.enter(1, PLAIN);
-    let first = serve_next(&mut turns, &[3, 1], 100);
-    let second = serve_next(&mut turns, &[3, 1], 100);
-    let third = serve_next(&mut turns, &[3, 1], 100);
-    Ok((first, second, third))
+    let mut next = || serve_next(&mut turns, &[3, 1], 100);
+    Ok((next(), next(), next()))
 }
 
 // An id that is not incremental goes before a smaller one that is, and does so again after it was served.
@@ -36,7 +34,6 @@ pub fn plain_before_incremental(heap: Global) -> Result<(Option<u32>, Option<u32
     let mut ordered = Ordered::new(heap)?;
     ordered.enter(1, INCREMENTAL);
     ordered.enter(3, PLAIN);
-    let first = serve_next(&mut ordered, &[1, 3], 100);
-    let second = serve_next(&mut ordered, &[1, 3], 100);
-    Ok((first, second))
+    let mut next = || serve_next(&mut ordered, &[1, 3], 100);
+    Ok((next(), next()))
 }
