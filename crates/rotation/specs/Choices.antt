@@ -1,5 +1,5 @@
 -- Which of the listed ids comes first, under each rule.
-use Rattle.std.specs.Prelude.{◌≡◌, ℕ, Bool, true, false, cond, ◌⊎◌, List, [], ◌∷◌, map, Some, None, Option, ◌==◌, nat_lt}
+use Rattle.std.specs.Prelude.{◌≡◌, ℕ, Bool, true, false, cond, ◌⊎◌, List, [], ◌∷◌, map, fold, Some, None, Option, ◌==◌, nat_lt}
 use Rattle.std.specs.Option.{option_map}
 use Rattle.records.specs.Records.{seek}
 use Rattle.wire.specs.Urgencies.{urgency_number}
@@ -56,8 +56,7 @@ better at best id = cond (sooner (at id) (best_standing at best)) (Some id) best
 
 -- the best of a list, beside the best so far
 abbrev pub chosen : (ℕ → Option Standing) → Option ℕ → List ℕ → Option ℕ
-chosen at best [] = best
-chosen at best (id ∷ ids) = chosen at (better at best id) ids
+chosen at best ids = fold (better at) best ids
 
 -- an id is listed and stands somewhere, and comes before every other listed id that does
 pub record ComesFirst (at : ℕ → Option Standing) (ids : List ℕ) (id : ℕ) : Type 0 where
