@@ -7,6 +7,7 @@ use Rattle.std.proofs.lemmas.Bool.{true≢false, false≢true, lt-ltb, cond-true
 use Rattle.std.proofs.lemmas.Bool.Decides.{nat_tests}
 use Rattle.records.specs.Records.{seek, Absent}
 use Rattle.records.specs.Tables.{Is, Found, without}
+use Rattle.records.proofs.Lookups.{record-absent, record-found, length_without}
 use Rattle.wire.specs.declared.priorities.Priority.{Priority}
 use Rattle.wire.specs.Urgencies.{urgency_number}
 use Rattle.schedule.specs.Ranks.{Ranks, Event, Accepts, Listed, Least, entered, served}
@@ -15,8 +16,8 @@ use Rattle.rotation.specs.declared.seats.Seat.{Seat}
 use Rattle.rotation.specs.declared.standings.Standing.{Standing}
 use Rattle.rotation.specs.Orders.{id_of, priority_of, seat_of, ranked, Kept, new_seat, served_now, to_end, order_after, Turned}
 use Rattle.rotation.specs.Choices.{before, standing_of, First}
-use Rattle.rotation.specs.Places.{seat-absent, seat-found, mapped-some, mapped-none}
-use Rattle.rotation.specs.Turning.{kept-after, length_without}
+use Rattle.rotation.specs.Places.{mapped-some, mapped-none}
+use Rattle.rotation.specs.Turning.{kept-after}
 
 -- a call that is refused, and one that is accepted
 pub refused : {P : Type 0} {ranks : P → Ranks} {turned : P → Event → P → Type 0} {event : Event} {s : P} → {t : P} → (Accepts (ranks s) event → ⊥) → t ≡ s → Did ranks turned event s false t
@@ -37,10 +38,10 @@ room xs m r k h e = let few : length xs < min 64 m = omega (arith, k.roomy) in e
 
 -- an id that has a seat is in, and another is not
 pub is_in : (xs : List Seat) (id : ℕ) (x : Seat) → Is id_of xs id x → is_some ((ranked xs).rank id) ≡ true
-is_in xs id x is = ap (λ o. is_some (option_map priority_of o)) (seat-found xs id x is)
+is_in xs id x is = ap (λ o. is_some (option_map priority_of o)) (record-found id_of xs id x is)
 
 pub is-out : (xs : List Seat) (id : ℕ) → Absent (map id_of xs) id → (ranked xs).rank id ≡ None
-is-out xs id none = ap (option_map priority_of) (seat-absent xs id none)
+is-out xs id none = ap (option_map priority_of) (record-absent id_of xs id none)
 
 pub not-out : (xs : List Seat) (id : ℕ) (x : Seat) → Is id_of xs id x → (ranked xs).rank id ≢ None
 not-out xs id x is none = true≢false (sym (is_in xs id x is) ∙ ap is_some none)
@@ -50,8 +51,8 @@ not_in xs id none is = true≢false (sym is ∙ ap is_some (is-out xs id none))
 
 -- the seat that a table lends is the id's, so the id is in exactly where one is lent
 pub seat-lent : (xs : List Seat) (id : ℕ) (r : Option (Bor Seat)) → Found id_of xs id r → seat_of xs id ≡ option_map (λ x. x.now) r
-seat-lent xs id None none = seat-absent xs id none
-seat-lent xs id (Some x) is = seat-found xs id x.now is
+seat-lent xs id None none = record-absent id_of xs id none
+seat-lent xs id (Some x) is = record-found id_of xs id x.now is
 
 pub lent : (xs : List Seat) (id : ℕ) (r : Option (Bor Seat)) → Found id_of xs id r → is_some r ≡ true → is_some ((ranked xs).rank id) ≡ true
 lent xs id None none e = absurd cc
@@ -70,8 +71,8 @@ entered-turned xs ys m id p r k none few answers rows = record { accepted = (non
 pub served-turned : (xs rest ys : List Seat) (m n id octets : ℕ) (x : Seat) (r : Bool) → Kept xs m → Is id_of xs id x → rest ≡ without id_of id xs → n ≡ m
     → r ≡ nat_lt (length rest) (min 64 n) → ys ≡ cond r (rest ++ served_now x ∷ []) rest → Turned xs (served id octets) ys
 served-turned xs rest ys m n id octets x r k is gone same answers rows =
-    let seat = seat-found xs id x is in
-    let fewer : length rest + 1 ≡ length xs = ap (λ zs. length zs + 1) gone ∙ length_without xs id x seat in
+    let seat = record-found id_of xs id x is in
+    let fewer : length rest + 1 ≡ length xs = ap (λ zs. length zs + 1) gone ∙ length_without id_of xs id x seat in
     let few : length rest < min 64 n = omega (arith, k.few, k.roomy) in
     record {
       accepted = tt;
@@ -80,7 +81,7 @@ served-turned xs rest ys m n id octets x r k is gone same answers rows =
 
 -- and where the id has no seat, nothing happens
 pub unserved-turned : (xs : List Seat) (id octets : ℕ) → Absent (map id_of xs) id → Turned xs (served id octets) xs
-unserved-turned xs id octets none = record { accepted = tt; order = ap (λ o. to_end id o xs) (sym (seat-absent xs id none)) }
+unserved-turned xs id octets none = record { accepted = tt; order = ap (λ o. to_end id o xs) (sym (record-absent id_of xs id none)) }
 
 -- the id that comes first has the least urgency
 pub least-from : (rule : ℕ → Seat → Standing) → ((i : ℕ) (a : Seat) → (rule i a).urgency ≡ urgency_number a.priority.urgency)

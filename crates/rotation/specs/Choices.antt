@@ -1,6 +1,6 @@
 -- Which of the listed ids comes first, under each rule.
-use Rattle.std.specs.Prelude.{◌≡◌, ℕ, Bool, true, false, cond, ◌⊎◌, List, [], ◌∷◌, map, fold, Some, None, Option, ◌==◌, nat_lt}
-use Rattle.std.specs.Option.{option_map}
+use Rattle.std.specs.Prelude.{◌≡◌, ℕ, Bool, true, false, cond, ◌⊎◌, List, map, fold, Some, None, Option, ◌==◌, nat_lt}
+use Rattle.std.specs.Option.{option_map, option_and_then}
 use Rattle.records.specs.Records.{seek}
 use Rattle.wire.specs.Urgencies.{urgency_number}
 use Rattle.schedule.specs.Ranks.{Listed}
@@ -45,14 +45,9 @@ sooner None o = false
 sooner (Some s) None = true
 sooner (Some s) (Some t) = before s t
 
--- where the best id so far stands, by what each id stands at
-abbrev pub best_standing : (ℕ → Option Standing) → Option ℕ → Option Standing
-best_standing at None = None
-best_standing at (Some id) = at id
-
 -- the better of the best id so far and another
 abbrev pub better : (ℕ → Option Standing) → Option ℕ → ℕ → Option ℕ
-better at best id = cond (sooner (at id) (best_standing at best)) (Some id) best
+better at best id = cond (sooner (at id) (option_and_then at best)) (Some id) best
 
 -- the best of a list, beside the best so far
 abbrev pub chosen : (ℕ → Option Standing) → Option ℕ → List ℕ → Option ℕ

@@ -1,5 +1,6 @@
 -- The best of a list comes before every other listed id.
 use Rattle.std.specs.Prelude.{◌≡◌, ℕ, Bool, true, false, cond, ◌⊎◌, List, [], ◌∷◌, ◌++◌, Some, None, Option, refl}
+use Rattle.std.specs.Option.{option_and_then}
 use Rattle.std.proofs.Common.{arith, sym, ◌∙◌, ap, subst, inl, inr, ⊎_elim, append_assoc, append-nil}
 use Rattle.std.proofs.lemmas.Bool.Decides.{nat_tests}
 use Rattle.std.proofs.lemmas.Bool.{cases_Bool}
@@ -7,7 +8,7 @@ use Rattle.schedule.specs.Ranks.{Listed}
 use Rattle.rotation.specs.declared.standings.Group.{Group}
 use Rattle.rotation.specs.declared.standings.Group.TheVariants.{Plain, New, Served}
 use Rattle.rotation.specs.declared.standings.Standing.{Standing}
-use Rattle.rotation.specs.Choices.{group_number, before, sooner, best_standing, better, chosen, ComesFirst, First}
+use Rattle.rotation.specs.Choices.{group_number, before, sooner, better, chosen, ComesFirst, First}
 
 -- a group is told by its number
 same_group : (g h : Group) → group_number g ≡ group_number h → g ≡ h
@@ -115,7 +116,7 @@ module _ (at : ℕ → Option Standing) (apart : (p q : ℕ) (s : Standing) → 
       against s b e g true h = passes ids id b s e g h
       against s b e g false h = stays ids id b s e g h
 
-      go : (o : Option Standing) (b : Option ℕ) → at id ≡ o → First at ids b → First at (ids ++ id ∷ []) (cond (sooner o (best_standing at b)) (Some id) b)
+      go : (o : Option Standing) (b : Option ℕ) → at id ≡ o → First at ids b → First at (ids ++ id ∷ []) (cond (sooner o (option_and_then at b)) (Some id) b)
       go None b e g = past ids id b e g
       go (Some s) None e g = alone ids id s e g
       go (Some s) (Some b) e g = rw g.is (against s b e g (before s g.stands) refl)

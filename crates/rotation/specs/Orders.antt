@@ -5,7 +5,8 @@
 use Rattle.std.specs.Prelude.{◌≡◌, ℕ, ◌≤◌, true, false, cond, List, [], ◌∷◌, ◌++◌, length, Some, None, Option, ◌==◌}
 use Rattle.std.specs.Option.{option_map}
 use Rattle.std.proofs.Props.{props}
-use Rattle.records.specs.Tables.{without}
+use Rattle.records.specs.Tables.{without, record_of}
+use Rattle.records.specs.Tables as tables
 use Rattle.wire.specs.declared.priorities.Priority.{Priority}
 use Rattle.schedule.specs.Ranks.{Ranks, Event, Accepts, entered, altered, left, served}
 use Rattle.rotation.specs.declared.seats.Seat.{Seat}
@@ -18,8 +19,7 @@ priority_of x = x.priority
 
 -- the seat of an id; none where it has none
 abbrev pub seat_of : List Seat → ℕ → Option Seat
-seat_of [] id = None
-seat_of (x ∷ xs) id = cond (x.id == id) (Some x) (seat_of xs id)
+seat_of xs id = record_of id_of xs id
 
 -- what an order means
 abbrev pub ranked : List Seat → Ranks
@@ -27,8 +27,7 @@ ranked xs = record { rank = λ id. option_map priority_of (seat_of xs id); enter
 
 -- no two seats have one id
 abbrev pub Distinct : List Seat → Type 0
-Distinct [] = Unit {0}
-Distinct (x ∷ xs) = (seat_of xs x.id ≡ None) × Distinct xs
+Distinct xs = tables.Distinct id_of xs
 
 -- an order is kept: at most 64 seats with different ids, and memory for 64
 pub record Kept (xs : List Seat) (memory : ℕ) : Type 0 where

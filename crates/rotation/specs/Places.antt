@@ -1,44 +1,16 @@
 -- The seat of an id, and where it stands.
-use Rattle.std.specs.Prelude.{◌≡◌, ℕ, suc, ◌<◌, false, ◌⊎◌, List, [], ◌∷◌, map, length, Some, None, Option, nat_eq, slice_index_or, refl}
-use Rattle.std.proofs.Common.{arith, sym, ◌∙◌, ap, ⊎_elim, eq-eqb, ne_eqb}
+use Rattle.std.specs.Prelude.{◌≡◌, ℕ, ◌⊎◌, List, [], ◌∷◌, map, Some, None, Option, slice_index_or, refl}
+use Rattle.std.proofs.Common.{arith, sym, ◌∙◌, ⊎_elim, eq-eqb, ne_eqb}
 use Rattle.std.specs.Option.{option_map}
 use Rattle.std.proofs.lemmas.Bool.{cases_eq}
 use Rattle.records.specs.Records.{seek, Absent, Finds}
-use Rattle.records.specs.Tables.{Is}
+use Rattle.records.proofs.Lookups.{record-absent, record-found, record-named}
 use Rattle.records.proofs.Ids.{seek-first}
 use Rattle.records.proofs.Rows.{found-is}
 use Rattle.rotation.specs.declared.seats.Seat.{Seat}
 use Rattle.rotation.specs.declared.standings.Standing.{Standing}
 use Rattle.rotation.specs.Orders.{id_of, seat_of}
 use Rattle.rotation.specs.Choices.{standing_of}
-
--- no seat has the id
-pub seat-absent : (xs : List Seat) (id : ℕ) → Absent (map id_of xs) id → seat_of xs id ≡ None
-seat-absent [] id none = refl
-seat-absent (x ∷ xs) id none =
-    let f : nat_eq x.id id ≡ false = ne_eqb x.id id (none 0 (omega arith)) in
-    rw f (seat-absent xs id (λ k l e. none (suc k) (omega arith) e))
-
-found : (xs : List Seat) (id : ℕ) (x : Seat) → seek (map id_of xs) id < length xs → x ≡ slice_index_or xs (seek (map id_of xs) id) x → seat_of xs id ≡ Some x
-found [] id x = λ h e. absurd (omega arith)
-found (y ∷ xs) id x =
-    ⊎_elim
-    (λ s. rw (eq-eqb y.id id s) (λ h e. ap (λ z. Some z) (sym e)))
-    (λ n. rw (ne_eqb y.id id n) (λ h e. found xs id x (omega arith) e))
-    (cases_eq y.id id)
-
--- the seat of the id
-pub seat-found : (xs : List Seat) (id : ℕ) (x : Seat) → Is id_of xs id x → seat_of xs id ≡ Some x
-seat-found xs id x is = found xs id x is.there is.at
-
--- a seat that was found has the id
-pub seat-named : (xs : List Seat) (id : ℕ) (x : Seat) → seat_of xs id ≡ Some x → x.id ≡ id
-seat-named [] id x = λ e. absurd cc
-seat-named (y ∷ xs) id x =
-    ⊎_elim
-    (λ s. rw (eq-eqb y.id id s) (λ e. let m : y ≡ x = cc in ap id_of (sym m) ∙ s))
-    (λ n. rw (ne_eqb y.id id n) (λ e. seat-named xs id x e))
-    (cases_eq y.id id)
 
 -- seats at one place have one id
 place-apart : (xs : List Seat) (p q : ℕ) (a b : Seat) → seat_of xs p ≡ Some a → seat_of xs q ≡ Some b → seek (map id_of xs) p ≡ seek (map id_of xs) q → p ≡ q
@@ -65,7 +37,7 @@ stands-apart rule apart xs p q s e f =
     let a = mapped-some (rule (seek (map id_of xs) p)) (seat_of xs p) s e in
     let b = mapped-some (rule (seek (map id_of xs) q)) (seat_of xs q) s f in
     ⊎_elim
-    (λ same. sym (seat-named xs p a.0 a.1) ∙ same ∙ seat-named xs q b.0 b.1)
+    (λ same. sym (record-named id_of xs p a.0 a.1) ∙ same ∙ record-named id_of xs q b.0 b.1)
     (place-apart xs p q a.0 b.0 a.1 b.1)
     (apart (seek (map id_of xs) p) (seek (map id_of xs) q) a.0 b.0 (a.2 ∙ sym b.2))
 
@@ -73,7 +45,7 @@ stands-apart rule apart xs p q s e f =
 pub standing-found : (rule : ℕ → Seat → Standing) (xs : List Seat) (id i : ℕ) (x : Seat) → Finds (map id_of xs) id (Some i) → x ≡ slice_index_or xs i x → Some (rule i x) ≡ standing_of rule xs id
 standing-found rule xs id i x f at =
     let first : seek (map id_of xs) id ≡ i = seek-first (map id_of xs) id i f.0 f.1 f.2 in
-    rw (first, seat-found xs id x (found-is id_of xs id i x f at)) refl
+    rw (first, record-found id_of xs id x (found-is id_of xs id i x f at)) refl
 
 pub standing-absent : (rule : ℕ → Seat → Standing) (xs : List Seat) (id : ℕ) → Absent (map id_of xs) id → standing_of rule xs id ≡ None
-standing-absent rule xs id none = rw (seat-absent xs id none) refl
+standing-absent rule xs id none = rw (record-absent id_of xs id none) refl

@@ -1,5 +1,5 @@
 -- What an event leaves of the seats, and of their meaning.
-use Rattle.std.specs.Prelude.{◌≡◌, ℕ, suc, ◌+◌, ◌<◌, Bool, true, false, cond, List, [], ◌∷◌, ◌++◌, map, length, is_some, Some, None, Option, ◌==◌, nat_eq, slice_index_or, slice_set, refl}
+use Rattle.std.specs.Prelude.{◌≡◌, ℕ, suc, ◌<◌, Bool, true, false, cond, List, [], ◌∷◌, ◌++◌, map, length, is_some, Some, None, Option, ◌==◌, nat_eq, slice_index_or, slice_set, refl}
 use Rattle.std.proofs.Common.{arith, sym, ◌∙◌, ap, ⊎_elim, eq-eqb, ne_eqb}
 use Rattle.std.proofs.Math.Path.{fun_ext}
 use Rattle.std.specs.Option.{option_map}
@@ -8,16 +8,12 @@ use Rattle.std.proofs.lemmas.Bool.{cases_eq, false≢true}
 use Rattle.std.proofs.lemmas.Bool.Decides.{nat_tests}
 use Rattle.records.specs.Records.{seek}
 use Rattle.records.specs.Tables.{without}
+use Rattle.records.proofs.Lookups.{record-named, record-push, record-without, length_without}
 use Rattle.wire.specs.declared.priorities.Priority.{Priority}
 use Rattle.schedule.specs.Ranks.{Ranks, Event, Accepts, after, entered, altered, left, served}
 use Rattle.rotation.specs.declared.seats.Seat.{Seat}
 use Rattle.rotation.specs.Orders.{id_of, priority_of, seat_of, ranked, Distinct, Kept, new_seat, with_priority, served_now, altering, to_end, order_after, Turned}
-use Rattle.rotation.specs.Places.{seat-named, mapped-none}
-
--- a seat more at the end
-pub seat-push : (xs : List Seat) (x : Seat) (q : ℕ) → seat_of xs x.id ≡ None → seat_of (xs ++ x ∷ []) q ≡ cond (q == x.id) (Some x) (seat_of xs q)
-seat-push [] x q h = grind (arith, nat_tests)
-seat-push (y ∷ xs) x q h = grind (arith, nat_tests, seat-push xs x q)
+use Rattle.rotation.specs.Places.{mapped-none}
 
 -- another priority
 none-twice : (b : Bool) → ◌≡◌ {A = Option Seat} (cond b None None) None
@@ -30,15 +26,6 @@ seat-altering (x ∷ xs) id p q =
     ⊎_elim
     (λ e. rw (eq-eqb x.id id e) (grind (arith, nat_tests)))
     (λ n. rw (ne_eqb x.id id n) (grind (arith, nat_tests, seat-altering xs id p q)))
-    (cases_eq x.id id)
-
--- a seat that is gone
-pub seat-without : (xs : List Seat) (id q : ℕ) → Distinct xs → seat_of (without id_of id xs) q ≡ cond (q == id) None (seat_of xs q)
-seat-without [] id q d = sym (none-twice (q == id))
-seat-without (x ∷ xs) id q d =
-    ⊎_elim
-    (λ e. let t : nat_eq x.id id ≡ true = eq-eqb x.id id e in let n = d.0 in rw t (grind (arith, nat_tests)))
-    (λ n. rw (ne_eqb x.id id n) (grind (arith, nat_tests, seat-without xs id q d.1)))
     (cases_eq x.id id)
 
 -- the seat with another priority stands at its place
@@ -55,17 +42,9 @@ length-altering : (xs : List Seat) (id : ℕ) (p : Priority) → length (alterin
 length-altering [] id p = refl
 length-altering (x ∷ xs) id p = elim (x.id == id) as (λ b. length (cond b (with_priority p x ∷ xs) (x ∷ altering id p xs)) ≡ suc (length xs)) [ true ↦ refl | false ↦ ap suc (length-altering xs id p) ]
 
-pub length_without : (xs : List Seat) (id : ℕ) (x : Seat) → seat_of xs id ≡ Some x → length (without id_of id xs) + 1 ≡ length xs
-length_without [] id x = λ e. absurd cc
-length_without (y ∷ xs) id x =
-    ⊎_elim
-    (λ s. rw (eq-eqb y.id id s) (λ e. omega arith))
-    (λ n. rw (ne_eqb y.id id n) (λ e. omega (arith, length_without xs id x e)))
-    (cases_eq y.id id)
-
 length-to_end : (xs : List Seat) (id : ℕ) (o : Option Seat) → seat_of xs id ≡ o → length (to_end id o xs) ≡ length xs
 length-to_end xs id None e = refl
-length-to_end xs id (Some x) e = omega (arith, length_push (without id_of id xs) (served_now x), length_without xs id x e)
+length-to_end xs id (Some x) e = omega (arith, length_push (without id_of id xs) (served_now x), length_without id_of xs id x e)
 
 -- ids stay different
 distinct_push : (xs : List Seat) (x : Seat) → Distinct xs → seat_of xs x.id ≡ None → Distinct (xs ++ x ∷ [])
@@ -76,7 +55,7 @@ distinct_push (y ∷ xs) x d h =
     (λ n.
     let t : nat_eq y.id x.id ≡ false = ne_eqb y.id x.id n in
     let further : seat_of xs x.id ≡ None = rw t at h in
-    (seat-push xs x y.id further ∙ rw t d.0, distinct_push xs x d.1 further))
+    (record-push id_of xs x y.id further ∙ rw t d.0, distinct_push xs x d.1 further))
     (cases_eq y.id x.id)
 
 distinct-altering : (xs : List Seat) (id : ℕ) (p : Priority) → Distinct xs → Distinct (altering id p xs)
@@ -92,12 +71,12 @@ distinct_without [] id d = tt
 distinct_without (x ∷ xs) id d =
     ⊎_elim
     (λ e. rw (eq-eqb x.id id e) d.1)
-    (λ n. let t : nat_eq x.id id ≡ false = ne_eqb x.id id n in rw t (seat-without xs id x.id d.1 ∙ rw t d.0, distinct_without xs id d.1))
+    (λ n. let t : nat_eq x.id id ≡ false = ne_eqb x.id id n in rw t (record-without id_of xs id x.id d.1 ∙ rw t d.0, distinct_without xs id d.1))
     (cases_eq x.id id)
 
 -- the seat that goes to the end is gone from before it
 pub gone : (xs : List Seat) (id : ℕ) (x : Seat) → Distinct xs → seat_of xs id ≡ Some x → seat_of (without id_of id xs) x.id ≡ None
-gone xs id x d e = seat-without xs id x.id d ∙ rw (eq-eqb x.id id (seat-named xs id x e)) refl
+gone xs id x d e = record-without id_of xs id x.id d ∙ rw (eq-eqb x.id id (record-named id_of xs id x e)) refl
 
 distinct-to_end : (xs : List Seat) (id : ℕ) (o : Option Seat) → Distinct xs → seat_of xs id ≡ o → Distinct (to_end id o xs)
 distinct-to_end xs id None d e = d
@@ -105,9 +84,9 @@ distinct-to_end xs id (Some x) d e = distinct_push (without id_of id xs) (served
 
 pub seat-to_end : (xs : List Seat) (id : ℕ) (x : Seat) (q : ℕ) → Distinct xs → seat_of xs id ≡ Some x → seat_of (to_end id (Some x) xs) q ≡ cond (q == id) (Some (served_now x)) (seat_of xs q)
 seat-to_end xs id x q d e =
-    let i = seat-named xs id x e in
-    let p = seat-push (without id_of id xs) (served_now x) q (gone xs id x d e) in
-    let w = seat-without xs id q d in
+    let i = record-named id_of xs id x e in
+    let p = record-push id_of (without id_of id xs) (served_now x) q (gone xs id x d e) in
+    let w = record-without id_of xs id q d in
     grind (arith, nat_tests)
 
 -- the seat of an id that is in
@@ -129,7 +108,7 @@ kept-after xs memory (entered id p) k a =
 kept-after xs memory (altered id p) k a = record { few = omega (arith, length-altering xs id p, k.few); roomy = k.roomy; distinct = distinct-altering xs id p k.distinct }
 kept-after xs memory (left id) k a =
     let x = in_some xs id a in
-    record { few = omega (arith, length_without xs id x.0 x.1, k.few); roomy = k.roomy; distinct = distinct_without xs id k.distinct }
+    record { few = omega (arith, length_without id_of xs id x.0 x.1, k.few); roomy = k.roomy; distinct = distinct_without xs id k.distinct }
 kept-after xs memory (served id n) k a =
     record {
       few = omega (arith, length-to_end xs id (seat_of xs id) refl, k.few);
@@ -156,7 +135,7 @@ rank-to_end xs id (Some x) d e q =
 -- what an accepted event makes of the meaning
 pub ranked-after : (xs : List Seat) (event : Event) → Distinct xs → Accepts (ranked xs) event → ranked (order_after xs event) ≡ after (ranked xs) event
 ranked-after xs (entered id p) d a =
-    same-ranks (λ q. ap (option_map priority_of) (seat-push xs (new_seat id p) q (mapped-none priority_of (seat_of xs id) a.0)) ∙ mapped-cond q id (Some (new_seat id p)) (seat_of xs q)) (length_push xs (new_seat id p))
+    same-ranks (λ q. ap (option_map priority_of) (record-push id_of xs (new_seat id p) q (mapped-none priority_of (seat_of xs id) a.0)) ∙ mapped-cond q id (Some (new_seat id p)) (seat_of xs q)) (length_push xs (new_seat id p))
 ranked-after xs (altered id p) d a =
     let x = in_some xs id a in
     same-ranks
@@ -167,7 +146,7 @@ ranked-after xs (altered id p) d a =
     (length-altering xs id p)
 ranked-after xs (left id) d a =
     let x = in_some xs id a in
-    same-ranks (λ q. ap (option_map priority_of) (seat-without xs id q d) ∙ mapped-cond q id None (seat_of xs q)) (omega (arith, length_without xs id x.0 x.1))
+    same-ranks (λ q. ap (option_map priority_of) (record-without id_of xs id q d) ∙ mapped-cond q id None (seat_of xs q)) (omega (arith, length_without id_of xs id x.0 x.1))
 ranked-after xs (served id n) d a = same-ranks (rank-to_end xs id (seat_of xs id) d refl) (length-to_end xs id (seat_of xs id) refl)
 
 pub turned-means : (xs ys : List Seat) (event : Event) → Distinct xs → Turned xs event ys → ranked ys ≡ after (ranked xs) event

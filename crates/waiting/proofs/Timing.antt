@@ -3,11 +3,12 @@ use Rattle.std.proofs.Common.{◌≡◌, ℕ, ◌<◌, ◌⊎◌, List, [], ◌�
 use Rattle.std.specs.List.{AllByRecursion}
 use Rattle.std.proofs.lemmas.Bool.{cases_eq}
 use Rattle.records.specs.Tables.{without}
+use Rattle.records.proofs.Lookups.{record-named, record-without}
 use Rattle.schedule.specs.Ranks.{Event, Accepts, after, entered, altered, left, served}
 use Rattle.rotation.specs.declared.seats.Seat.{Seat}
 use Rattle.rotation.specs.Orders.{id_of, seat_of, ranked, Distinct, Kept, new_seat, served_now, to_end, order_after}
-use Rattle.rotation.specs.Places.{seat-named, mapped-none}
-use Rattle.rotation.specs.Turning.{seat-without, gone, kept-after, ranked-after}
+use Rattle.rotation.specs.Places.{mapped-none}
+use Rattle.rotation.specs.Turning.{gone, kept-after, ranked-after}
 use Rattle.waiting.specs.Histories.{ranks_after, Accepted, last_served, Earlier}
 use Rattle.waiting.specs.Waits.{order_of}
 use Rattle.waiting.proofs.Pairs.{Each, all_others, all_both, all-push, each_both, each-push, all_without, each-without, all-altering, each-altering}
@@ -78,7 +79,7 @@ timely-end : (history : List Event) (id octets : ℕ) (xs : List Seat) (o : Opti
 timely-end history id octets xs None d e t = timely-others (last_served history) (last_served (served id octets ∷ history)) id xs e (λ q n. rw (ne_eqb id q (λ s. n (sym s))) refl) t
 timely-end history id octets xs (Some x) d e t =
     let time = last_served (served id octets ∷ history) in
-    let named = seat-named xs id x e in
+    let named = record-named id_of xs id x e in
     let none : seat_of (without id_of id xs) x.id ≡ None = gone xs id x d e in
     let mine : time x.id ≡ Some (length history) = rw (eq-eqb id x.id (sym named)) refl in
     let rest = timely-others (last_served history) time id (without id_of id xs) (ap (seat_of (without id_of id xs)) (sym named) ∙ none) (λ q n. rw (ne_eqb id q (λ s. n (sym s))) refl) (timely-without (last_served history) id xs t) in
@@ -105,7 +106,7 @@ timely-after history (altered id p) xs d a t =
       rising = each-altering (InOrder (last_served history)) xs id p (λ x y r. r) (λ x y r. r) t.rising;
     }
 timely-after history (left id) xs d a t =
-    timely-others (last_served history) (last_served (left id ∷ history)) id (without id_of id xs) (seat-without xs id id d ∙ rw (eq-eqb id id refl) refl) (λ q n. rw (ne_eqb id q (λ s. n (sym s))) refl)
+    timely-others (last_served history) (last_served (left id ∷ history)) id (without id_of id xs) (record-without id_of xs id id d ∙ rw (eq-eqb id id refl) refl) (λ q n. rw (ne_eqb id q (λ s. n (sym s))) refl)
     (timely-without (last_served history) id xs t)
 timely-after history (served id octets) xs d a t = timely-end history id octets xs (seat_of xs id) d refl t
 

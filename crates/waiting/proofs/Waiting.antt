@@ -2,12 +2,13 @@
 use Rattle.std.proofs.Common.{◌≡◌, ℕ, true, List, map, Some, None, Option, ap, ◌∙◌, subst, inl, inr, ⊎_elim}
 use Rattle.std.specs.Option.{option_map}
 use Rattle.records.specs.Records.{seek}
+use Rattle.records.proofs.Lookups.{record-named}
 use Rattle.schedule.specs.Ranks.{Event}
 use Rattle.rotation.specs.declared.seats.Seat.{Seat}
 use Rattle.rotation.specs.declared.standings.Standing.{Standing}
 use Rattle.rotation.specs.Orders.{id_of, priority_of, seat_of, ranked}
 use Rattle.rotation.specs.Choices.{before, standing_of, First}
-use Rattle.rotation.specs.Places.{seat-named, mapped-some, mapped-none}
+use Rattle.rotation.specs.Places.{mapped-some, mapped-none}
 use Rattle.waiting.specs.Histories.{last_served, Placed}
 use Rattle.waiting.specs.Waits.{Rule, GoesBefore, Answers, order_of, ByHistory}
 use Rattle.waiting.proofs.Pairs.{all-seat, each-ahead}
@@ -29,7 +30,7 @@ module _ (stands : ℕ → Seat → Standing) (rule : List Event → Rule)
       → before (stands (seek (map id_of xs) p) a) (stands (seek (map id_of xs) q) b) ≡ true → GoesBefore (rule history) p a.priority q b.priority
   goes-in history xs p q a b timely is its h =
       let g : GoesBefore (rule history) a.id a.priority b.id b.priority = goes history (seek (map id_of xs) p) (seek (map id_of xs) q) a b (placed-in history xs p q a b timely is its) h in
-      subst (λ k. GoesBefore (rule history) p a.priority k b.priority) (seat-named xs q b its) (subst (λ k. GoesBefore (rule history) k a.priority b.id b.priority) (seat-named xs p a is) g)
+      subst (λ k. GoesBefore (rule history) p a.priority k b.priority) (record-named id_of xs q b its) (subst (λ k. GoesBefore (rule history) k a.priority b.id b.priority) (record-named id_of xs p a is) g)
 
   -- the answer by places is the answer by the history
   answers-from : (history : List Event) (xs : List Seat) → Timely (last_served history) xs → (ids : List ℕ) (answer : Option ℕ) → First (standing_of stands xs) ids answer → Answers (ranked xs) (rule history) ids answer
