@@ -20,7 +20,7 @@ use Rattle.rotation.specs.Places.{mapped-some, mapped-none}
 use Rattle.rotation.specs.Turning.{kept-after}
 
 -- a call that is refused, and one that is accepted
-pub refused : {P : Type 0} {ranks : P → Ranks} {turned : P → Event → P → Type 0} {event : Event} {s : P} → {t : P} → (Accepts (ranks s) event → ⊥) → t ≡ s → Did ranks turned event s false t
+pub refused : {P : Type 0} {ranks : P → Ranks} {turned : P → Event → P → Type 0} {event : Event} {s t : P} → (Accepts (ranks s) event → ⊥) → t ≡ s → Did ranks turned event s false t
 refused never same = record { answers = (λ e. absurd (false≢true e), λ a. absurd (never a)); turns = λ e. absurd (false≢true e); stays = λ e. same }
 
 pub done : {P : Type 0} {ranks : P → Ranks} {turned : P → Event → P → Type 0} {event : Event} {s : P} {r : Bool} {t : P} → r ≡ true → Accepts (ranks s) event → turned s event t → Did ranks turned event s r t

@@ -67,6 +67,7 @@ impl<R: Rule> Rotation<R> {
         ensures first { First (standing_of R.Rule.stands (order_in self.now)) ids.now result }
     {
         let mut best = None;
+        // The loop keeps the best so far.
         for id in ids {
             best = self.better(best, *id);
         }

@@ -13,6 +13,7 @@ pub enum Group {
 // Where a seat stands: the smaller urgency comes first, then the earlier group, then the smaller number.
 #[derive(Clone, Copy, PartialEq, Eq, PartialOrd, Ord)]
 pub struct Standing {
+    // by its number, since urgencies themselves have no order
     pub urgency: u8,
     pub group: Group,
     pub number: u64,

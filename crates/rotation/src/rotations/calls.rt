@@ -36,10 +36,7 @@ impl<R: Rule> Policy for Rotation<R> {
 
     fn enter(&mut self, id: u32, priority: Priority) -> bool {
         // A full table promises its seats alone, and a refusal leaves all of the policy as it was.
-        if self.table.len() >= LIMIT {
-            return false;
-        }
-        if self.table.get(id).is_some() {
+        if self.table.len() >= LIMIT || self.table.get(id).is_some() {
             return false;
         }
         self.table.add(Seat {
