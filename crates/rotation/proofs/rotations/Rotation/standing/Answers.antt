@@ -1,6 +1,4 @@
-use Rattle.std.proofs.Common.{Some, vec_items, sym, ap, ◌∙◌, arith}
-use Rattle.records.proofs.Rows.{found_within}
-use Rattle.rotation.specs.Orders.{id_of}
+use Rattle.std.proofs.Common.{Some, vec_items, sym, ap, ◌∙◌}
 use Rattle.rotation.specs.Places.{standing-absent, standing-found}
 use Rattle.rotation.proofs.rotations.Rotation.standing.Goals as goal
 
@@ -8,11 +6,6 @@ pub returns-in_err-place : goal.returns-in_err-place
 returns-in_err-place g c =
     let absent = rw c.as_slice.ensures.value at c.in_err-place.ensures in
     c.from_residual.ensures ∙ sym (standing-absent g.R.Rule.stands (vec_items c.args.self.now.table.rows) c.args.id absent)
-
-pub index-requires : goal.index-requires
-index-requires g c =
-    let found = rw c.as_slice.ensures.value at c.in_ok-place.ensures in
-    omega (arith, found_within id_of (vec_items c.args.self.now.table.rows) c.args.id c.in_ok-place.place found, c.args.self.now.table.rows.ok.0)
 
 pub returns : goal.returns
 returns g c =
