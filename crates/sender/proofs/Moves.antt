@@ -1,5 +1,5 @@
 -- A stream begins or ends in the gate, in the policy and in the table alike.
-use Rattle.std.proofs.Common.{◌≡◌, ℕ, ◌+◌, ◌<◌, ◌≤◌, min, Bool, true, false, cond, eqb, ltb, List, [], ◌∷◌, ◌++◌, length, is_some, Some, None, Option, sym, refl, ap, ◌∙◌, inl, inr, arith}
+use Rattle.std.proofs.Common.{◌≡◌, ℕ, ◌+◌, ◌<◌, ◌≤◌, Bool, true, false, cond, eqb, ltb, List, [], ◌∷◌, ◌++◌, length, is_some, Some, None, Option, sym, refl, ap, ◌∙◌, inl, inr, arith}
 use mathlib.Core.Path.{fun_ext}
 use Rattle.std.specs.Option.{option_map}
 use Rattle.std.specs.Map.{update}
@@ -47,19 +47,19 @@ not-le a b h = omega arith
 pub has-space : (s : State) → (Full s → ⊥) → (s.many < 64) × (s.gate.begun < s.gate.limit) × (s.ranks.entered < s.ranks.limit)
 has-space s unfull = (not-le 64 s.many (λ h. unfull (inl h)), not-le s.gate.limit s.gate.begun (λ h. unfull (inr (inl h))), not-le s.ranks.limit s.ranks.entered (λ h. unfull (inr (inr h))))
 
-pub table-adds : (xs ys : List Row) (cap : ℕ) (x : Row) (a : Bool) → length xs < 64 → 64 ≤ cap → a ≡ ltb (length xs) (min 64 cap) → ys ≡ cond a (xs ++ x ∷ []) xs → ys ≡ xs ++ x ∷ []
-table-adds xs ys cap x a few roomy answers rows = rows ∙ cond-true a _ _ (answers ∙ lt-ltb (length xs) (min 64 cap) (omega arith))
+pub table-adds : (xs ys : List Row) (x : Row) (a : Bool) → length xs < 64 → a ≡ ltb (length xs) 64 → ys ≡ cond a (xs ++ x ∷ []) xs → ys ≡ xs ++ x ∷ []
+table-adds xs ys x a few answers rows = rows ∙ cond-true a _ _ (answers ∙ lt-ltb (length xs) 64 few)
 
 module _ (s : State) (xs : List Row) (streams : s.streams ≡ streams_in xs) (many : s.many ≡ length xs) (order : ordered 0 s.highest xs ≡ true) (tied : Tied s) where
-  pub begin-state : (ys : List Row) (cap id : ℕ) (p : Priority) (room : ℕ → ℕ) (g : credit.Meaning) (r : schedule.Ranks) (b e a : Bool) → s.highest < id → (Full s → ⊥) → 64 ≤ cap → (calls.Accepts s.gate room (calls.begin id) → b ≡ true) → g ≡ cond b (calls.after s.gate (calls.begin id)) s.gate → (schedule.Accepts s.ranks (schedule.entered id p) → e ≡ true) → (e ≡ true → r ≡ schedule.after s.ranks (schedule.entered id p)) → a ≡ ltb (length xs) (min 64 cap) → ys ≡ cond a (xs ++ new_row id ∷ []) xs → ◌≡◌ {A = State} (record { gate = g; ranks = r; sink = s.sink; streams = streams_in ys; many = length ys; live = s.live; frame_size = s.frame_size; highest = id; given = s.given }) (after s (starting id p))
-  begin-state ys cap id p room g r b e a above unfull roomy can gate able ranks answers rows =
+  pub begin-state : (ys : List Row) (id : ℕ) (p : Priority) (room : ℕ → ℕ) (g : credit.Meaning) (r : schedule.Ranks) (b e a : Bool) → s.highest < id → (Full s → ⊥) → (calls.Accepts s.gate room (calls.begin id) → b ≡ true) → g ≡ cond b (calls.after s.gate (calls.begin id)) s.gate → (schedule.Accepts s.ranks (schedule.entered id p) → e ≡ true) → (e ≡ true → r ≡ schedule.after s.ranks (schedule.entered id p)) → a ≡ ltb (length xs) 64 → ys ≡ cond a (xs ++ new_row id ∷ []) xs → ◌≡◌ {A = State} (record { gate = g; ranks = r; sink = s.sink; streams = streams_in ys; many = length ys; live = s.live; frame_size = s.frame_size; highest = id; given = s.given }) (after s (starting id p))
+  begin-state ys id p room g r b e a above unfull can gate able ranks answers rows =
       let space = has-space s unfull in
       let none : s.streams id ≡ None = tied.below id above in
       let unbegun : s.gate.stream id ≡ None = paired_none (s.streams id) (s.gate.stream id) (tied.paired id) none in
       let unranked : s.ranks.rank id ≡ None = is_none (s.ranks.rank id) (tied.ranked id ∙ ap is_some none) in
       let begins : b ≡ true = can (λ z. omega arith, unbegun, space.1) in
       let enters : e ≡ true = able (unranked, space.2) in
-      let adds : ys ≡ xs ++ new_row id ∷ [] = table-adds xs ys cap (new_row id) a (omega (arith, space.0, many)) roomy answers rows in
+      let adds : ys ≡ xs ++ new_row id ∷ [] = table-adds xs ys (new_row id) a (omega (arith, space.0, many)) answers rows in
       same-state (gate ∙ cond-true b _ _ begins) (ranks enters) (λ q. ap (λ zs. streams_in zs q) adds ∙ streams-push xs (new_row id) q (past-none 0 s.highest id xs above order) ∙ ap (λ f. update eqb f id (Some fresh) q) (sym streams)) (ap length adds ∙ length_push xs (new_row id) ∙ ap (λ n. n + 1) (sym many)) refl refl refl
 
   pub close-state : (ys : List Row) (id : ℕ) (room : ℕ → ℕ) (g : credit.Meaning) (r : schedule.Ranks) (b e : Bool) → IsOpen s id → (calls.Accepts s.gate room (calls.finish id) → b ≡ true) → g ≡ cond b (calls.after s.gate (calls.finish id)) s.gate → (schedule.Accepts s.ranks (schedule.left id) → e ≡ true) → (e ≡ true → r ≡ schedule.after s.ranks (schedule.left id)) → ys ≡ without id_of id xs → ◌≡◌ {A = State} (record { gate = g; ranks = r; sink = s.sink; streams = streams_in ys; many = length ys; live = s.live; frame_size = s.frame_size; highest = s.highest; given = s.given }) (after s (closing id))

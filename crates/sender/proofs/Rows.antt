@@ -1,9 +1,8 @@
 -- The table of the open streams: what stays in order, and what it is as a function of ids.
-use Rattle.std.proofs.Common.{◌≡◌, ℕ, ◌<◌, ◌≤◌, min, Bool, true, false, cond, eqb, ltb, List, [], ◌∷◌, ◌++◌, map, length, set, Some, None, Option, sym, refl, ap, ◌∙◌, subst, ⊎_elim, arith, eq-eqb, ne_eqb}
+use Rattle.std.proofs.Common.{◌≡◌, ℕ, ◌<◌, ◌≤◌, Bool, true, false, cond, eqb, List, [], ◌∷◌, ◌++◌, map, length, set, Some, None, Option, sym, refl, ap, ◌∙◌, ⊎_elim, arith, eq-eqb, ne_eqb}
 use Rattle.std.specs.Option.{option_map}
 use Rattle.std.specs.Map.{update}
-use Rattle.std.proofs.lemmas.List.{length_push}
-use Rattle.std.proofs.lemmas.Bool.{cases_eq, ltb-true}
+use Rattle.std.proofs.lemmas.Bool.{cases_eq}
 use Rattle.std.proofs.lemmas.Bool.Decides.{nat_tests}
 use Rattle.records.specs.Records.{seek}
 use Rattle.records.specs.Tables.{without, record_of, Distinct}
@@ -69,27 +68,12 @@ pub streams-without : (xs : List Stream) (id q : ℕ) → Distinct id_of xs → 
 streams-without xs id q d = ap (option_map plain) (record-without id_of xs id q d) ∙ mapped-cond (eqb q id) None (record_of id_of xs q) ∙ ap (λ b. cond b None (streams_in xs q)) (either-way q id)
 
 -- what the table keeps when a record is added, and when one is taken out
-pub grown-few : (xs ys : List Stream) (cap : ℕ) (x : Stream) (a : Bool) → length xs ≤ 64 → a ≡ ltb (length xs) (min 64 cap) → ys ≡ cond a (xs ++ x ∷ []) xs → length ys ≤ 64
-grown-few xs ys cap x a few answers rows =
-    subst (λ zs. length zs ≤ 64) (sym rows) (cases a answers)
-  where
-    cases : (b : Bool) → b ≡ ltb (length xs) (min 64 cap) → length (cond b (xs ++ x ∷ []) xs) ≤ 64
-    cases true e = let l : length xs < min 64 cap = ltb-true (length xs) (min 64 cap) (sym e) in omega (arith, length_push xs x)
-    cases false e = few
-
 pub grown-ordered : (xs ys : List Stream) (highest : ℕ) (x : Stream) (a : Bool) → highest < x.id → ordered 0 highest xs ≡ true → ys ≡ cond a (xs ++ x ∷ []) xs → ordered 0 x.id ys ≡ true
 grown-ordered xs ys highest x a above order rows = ap (ordered 0 x.id) rows ∙ cases a
   where
     cases : (b : Bool) → ordered 0 x.id (cond b (xs ++ x ∷ []) xs) ≡ true
     cases true = ordered-push 0 highest xs x above order
     cases false = ordered-wider 0 0 highest x.id xs (omega arith) (omega arith) order
-
-shorter : (xs : List Stream) (id : ℕ) → length (without id_of id xs) ≤ length xs
-shorter [] id = omega arith
-shorter (x ∷ xs) id = elim (eqb x.id id) as (λ b. length (cond b xs (x ∷ without id_of id xs)) ≤ length (x ∷ xs)) [ true ↦ omega arith | false ↦ omega (arith, shorter xs id) ]
-
-pub shrunk-few : (xs ys : List Stream) (id : ℕ) → length xs ≤ 64 → ys ≡ without id_of id xs → length ys ≤ 64
-shrunk-few xs ys id few rows = subst (λ zs. length zs ≤ 64) (sym rows) (omega (arith, shorter xs id))
 
 pub shrunk-ordered : (xs ys : List Stream) (highest id : ℕ) → ordered 0 highest xs ≡ true → ys ≡ without id_of id xs → ordered 0 highest ys ≡ true
 shrunk-ordered xs ys highest id order rows = ap (ordered 0 highest) rows ∙ ordered-without 0 highest id xs order

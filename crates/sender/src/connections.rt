@@ -1,5 +1,5 @@
 // A connection: its gate, its policy, the table of its open streams, and what it counts.
-ghost use Rattle.std.specs.Prelude.{◌≡◌, ◌≤◌, true, length, vec_capacity};
+ghost use Rattle.std.specs.Prelude.{◌≡◌, true};
 ghost use Rattle.sender.specs.Streams.{ordered};
 
 use crate::streams::Stream;
@@ -24,6 +24,5 @@ pub struct Connection<G, P> {
     frame_size: u32,
     highest: u32,
     given: u32,
-    ghost few: { (length streams.rows.items ≤ 64) × (64 ≤ vec_capacity streams.rows) },
     ghost order: { ordered 0 highest streams.rows.items ≡ true },
 }

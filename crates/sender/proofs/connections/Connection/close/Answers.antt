@@ -1,16 +1,13 @@
-use Rattle.std.proofs.Common.{vec_items, refl, arith}
+use Rattle.std.proofs.Common.{vec_items, refl}
 use Rattle.sender.proofs.Moves.{close-state}
-use Rattle.sender.proofs.Rows.{shrunk-ordered, shrunk-few}
+use Rattle.sender.proofs.Rows.{shrunk-ordered}
 use Rattle.sender.proofs.connections.Connection.close.Goals as goal
 
 pub invariant_of-self : goal.invariant_of-self
 invariant_of-self g c =
     let s = c.args.self.now in
     let xs = vec_items s.streams.rows in
-    record {
-      few = (shrunk-few xs _ c.args.id s.few.0 c.remove.ensures.rows, omega (arith, c.remove.ensures.memory, s.few.1));
-      order = shrunk-ordered xs _ s.highest c.args.id s.order c.remove.ensures.rows;
-    }
+    record { order = shrunk-ordered xs _ s.highest c.args.id s.order c.remove.ensures.rows }
 
 pub returns : goal.returns
 returns g c k tied is =

@@ -1,5 +1,4 @@
-use Rattle.std.proofs.Common.{map, vec_items, refl, ap, ◌∙◌, arith, length-set}
-use Rattle.records.specs.Records.{seek}
+use Rattle.std.proofs.Common.{vec_items, refl, ap, ◌∙◌}
 use Rattle.sender.specs.Connections.{state_of}
 use Rattle.sender.proofs.Changes.{offers-named, offers-state}
 use Rattle.sender.proofs.Rows.{ordered-set}
@@ -24,7 +23,7 @@ invariant_of-self-2 g c =
     let s = c.args.self.now in
     let xs = vec_items s.streams.rows in
     let is = c.in-Some.ensures.finds in
-    record { few = (omega (arith, length-set xs (seek (map id_of xs) c.args.id) c.offer.new.self, s.few.0), s.few.1); order = ordered-set 0 s.highest c.args.id xs c.offer.new.self (offers-named c.in-Some.stream.now c.args.octets c.args.end c.offer.result c.offer.new.self c.offer.ensures ∙ is.named) is.there s.order }
+    record { order = ordered-set 0 s.highest c.args.id xs c.offer.new.self (offers-named c.in-Some.stream.now c.args.octets c.args.end c.offer.result c.offer.new.self c.offer.ensures ∙ is.named) is.there s.order }
 
 pub returns : goal.returns
 returns g c k tied =
