@@ -1,5 +1,5 @@
 -- What an event leaves of the seats, and of their meaning.
-use Rattle.std.specs.Prelude.{◌≡◌, ℕ, suc, ◌<◌, Bool, true, false, cond, List, [], ◌∷◌, ◌++◌, map, length, is_some, Some, None, Option, ◌==◌, nat_eq, slice_index_or, slice_set, refl}
+use Rattle.std.specs.Prelude.{◌≡◌, ℕ, suc, ◌<◌, true, false, cond, List, [], ◌∷◌, ◌++◌, map, length, is_some, Some, None, Option, ◌==◌, nat_eq, slice_index_or, slice_set, refl}
 use Rattle.std.proofs.Common.{arith, sym, ◌∙◌, ap, ⊎_elim, eq-eqb, ne_eqb}
 use Rattle.std.proofs.Math.Path.{fun_ext}
 use Rattle.std.specs.Option.{option_map}
@@ -16,12 +16,8 @@ use Rattle.rotation.specs.Orders.{id_of, priority_of, seat_of, ranked, Distinct,
 use Rattle.rotation.specs.Places.{mapped-none}
 
 -- another priority
-none-twice : (b : Bool) → ◌≡◌ {A = Option Seat} (cond b None None) None
-none-twice true = refl
-none-twice false = refl
-
 pub seat-altering : (xs : List Seat) (id : ℕ) (p : Priority) (q : ℕ) → seat_of (altering id p xs) q ≡ cond (q == id) (option_map (with_priority p) (seat_of xs id)) (seat_of xs q)
-seat-altering [] id p q = sym (none-twice (q == id))
+seat-altering [] id p q = grind (arith, nat_tests)
 seat-altering (x ∷ xs) id p q =
     ⊎_elim
     (λ e. rw (eq-eqb x.id id e) (grind (arith, nat_tests)))
@@ -38,7 +34,7 @@ altering-found (y ∷ xs) id p x =
     (cases_eq y.id id)
 
 -- how many seats there are
-length-altering : (xs : List Seat) (id : ℕ) (p : Priority) → length (altering id p xs) ≡ length xs
+pub length-altering : (xs : List Seat) (id : ℕ) (p : Priority) → length (altering id p xs) ≡ length xs
 length-altering [] id p = refl
 length-altering (x ∷ xs) id p = elim (x.id == id) as (λ b. length (cond b (with_priority p x ∷ xs) (x ∷ altering id p xs)) ≡ suc (length xs)) [ true ↦ refl | false ↦ ap suc (length-altering xs id p) ]
 

@@ -1,3 +1,3 @@
-pub mod Pairs
+pub mod Seats
 pub mod Timing
 pub mod Waiting

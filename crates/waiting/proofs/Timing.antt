@@ -1,17 +1,19 @@
 -- An order after a history: the seats that were served are so marked, and stand in the order of their times.
-use Rattle.std.proofs.Common.{◌≡◌, ℕ, ◌<◌, ◌⊎◌, List, [], ◌∷◌, ◌++◌, length, is_some, Some, None, Option, sym, refl, ap, ◌∙◌, subst, inl, inr, ⊎_elim, arith, eq-eqb, ne_eqb}
-use Rattle.std.specs.List.{AllByRecursion}
+use Rattle.std.proofs.Common.{◌≡◌, ℕ, ◌<◌, ◌⊎◌, List, [], ◌∷◌, ◌++◌, length, get_or, is_some, All, AllPairs, ◌≢◌, Some, None, Option, sym, refl, ap, ◌∙◌, subst, inl, inr, ⊎_elim, arith, eq-eqb, ne_eqb}
 use Rattle.std.proofs.lemmas.Bool.{cases_eq}
+use Rattle.std.proofs.lemmas.List.Elements.{All-push}
+use Rattle.std.proofs.lemmas.List.Quantifiers.{all_pairs_push, all_pairs_remove}
 use Rattle.records.specs.Tables.{without}
+use Rattle.records.proofs.Rows.{without-first}
 use Rattle.records.proofs.Lookups.{record-named, record-without}
 use Rattle.schedule.specs.Ranks.{Event, Accepts, after, entered, altered, left, served}
 use Rattle.rotation.specs.declared.seats.Seat.{Seat}
-use Rattle.rotation.specs.Orders.{id_of, seat_of, ranked, Distinct, Kept, new_seat, served_now, to_end, order_after}
+use Rattle.rotation.specs.Orders.{id_of, seat_of, ranked, Distinct, Kept, new_seat, served_now, altering, to_end, order_after}
 use Rattle.rotation.specs.Places.{mapped-none}
-use Rattle.rotation.specs.Turning.{gone, kept-after, ranked-after}
+use Rattle.rotation.specs.Turning.{gone, in_some, length-altering, kept-after, ranked-after}
 use Rattle.waiting.specs.Histories.{ranks_after, Accepted, last_served, Earlier}
 use Rattle.waiting.specs.Waits.{order_of}
-use Rattle.waiting.proofs.Pairs.{Each, all_others, all_both, all-push, each_both, each-push, all_without, each-without, all-altering, each-altering}
+use Rattle.waiting.proofs.Seats.{seat-there, all_others, all_remove, altering-same}
 
 -- a seat is marked as served exactly where its id has a time
 abbrev pub Marked : (ℕ → Option ℕ) → Seat → Type 0
@@ -22,27 +24,36 @@ InOrder time x y = Earlier (time x.id) (time y.id)
 
 -- an order agrees with the times
 pub record Timely (time : ℕ → Option ℕ) (xs : List Seat) : Type 0 where
-  pub marked : AllByRecursion (Marked time) xs
-  pub rising : Each (InOrder time) xs
+  pub marked : All (Marked time) xs
+  pub rising : AllPairs (InOrder time) xs
 
--- times that differ only at an id that has no seat
-timely-others : (old new : ℕ → Option ℕ) (id : ℕ) (xs : List Seat) → seat_of xs id ≡ None → ((q : ℕ) → (q ≡ id → ⊥) → new q ≡ old q) → Timely old xs → Timely new xs
-timely-others old new id xs none same t =
-    let all : AllByRecursion (λ x. new x.id ≡ old x.id) xs = all_others (λ q. new q ≡ old q) id xs none same in
+-- the same seats, but for their priorities, under times that are the same for their ids
+timely-alike : (old new : ℕ → Option ℕ) (xs ys : List Seat) → length ys ≡ length xs
+    → ((k : ℕ) (d : Seat) → k < length xs → (get_or ys k d).served ≡ (get_or xs k d).served)
+    → ((k : ℕ) (d : Seat) → k < length xs → new (get_or ys k d).id ≡ old (get_or xs k d).id) → Timely old xs → Timely new ys
+timely-alike old new xs ys long mark same t =
     record {
-      marked = all_both {P = λ x. new x.id ≡ old x.id} {Q = Marked old} {S = Marked new} xs (λ x e m. m ∙ ap is_some (sym e)) all t.marked;
-      rising = each_both {Q = λ x. new x.id ≡ old x.id} {R = InOrder old} {S = InOrder new} xs (λ x y e f r. subst (λ u. Earlier u (new y.id)) (sym e) (subst (Earlier (old x.id)) (sym f) r)) all t.rising;
+      marked = λ k d h. let g : k < length xs = omega arith in mark k d g ∙ t.marked k d g ∙ ap is_some (sym (same k d g));
+      rising = λ i j d l h.
+          let g : j < length xs = omega arith in
+          subst (λ u. Earlier u (new (get_or ys j d).id)) (sym (same i d (omega arith))) (subst (Earlier (old (get_or xs i d).id)) (sym (same j d g)) (t.rising i j d l g));
     }
 
-timely-without : (time : ℕ → Option ℕ) (id : ℕ) (xs : List Seat) → Timely time xs → Timely time (without id_of id xs)
-timely-without time id xs t = record { marked = all_without (Marked time) xs id t.marked; rising = each-without (InOrder time) xs id t.rising }
+-- times that differ only at an id that has no seat
+timely-others : (old new : ℕ → Option ℕ) (id : ℕ) (xs : List Seat) → seat_of xs id ≡ None → ((q : ℕ) → q ≢ id → new q ≡ old q) → Timely old xs → Timely new xs
+timely-others old new id xs none same t = timely-alike old new xs xs refl (λ k d h. refl) (λ k d h. same (get_or xs k d).id (all_others xs id none k d h)) t
+
+timely-without : (time : ℕ → Option ℕ) (id : ℕ) (xs : List Seat) (x : Seat) → seat_of xs id ≡ Some x → Timely time xs → Timely time (without id_of id xs)
+timely-without time id xs x e t =
+    let there = seat-there xs id x e in
+    subst (Timely time) (without-first id_of xs id there) (record { marked = all_remove (Marked time) xs _ there t.marked; rising = all_pairs_remove (InOrder time) xs _ there t.rising })
 
 -- one more seat at the end, of the latest time or of none
 timely-push : (time : ℕ → Option ℕ) (xs : List Seat) (y : Seat) → Marked time y → ((q : ℕ) → Earlier (time q) (time y.id) ⊎ (q ≡ y.id)) → seat_of xs y.id ≡ None → Timely time xs → Timely time (xs ++ y ∷ [])
 timely-push time xs y mark latest none t =
     record {
-      marked = all-push (Marked time) xs y t.marked mark;
-      rising = each-push (InOrder time) xs y t.rising (all_others (λ q. Earlier (time q) (time y.id)) y.id xs none (λ q n. ⊎_elim (λ e. e) (λ same. absurd (n same)) (latest q)));
+      marked = All-push (Marked time) xs y t.marked mark;
+      rising = all_pairs_push (InOrder time) xs y t.rising (λ k d h. ⊎_elim (λ e. e) (λ same. absurd (all_others xs y.id none k d h same)) (latest (get_or xs k d).id));
     }
 
 never-late : (o u : Option ℕ) → u ≡ None → Earlier o u
@@ -82,7 +93,7 @@ timely-end history id octets xs (Some x) d e t =
     let named = record-named id_of xs id x e in
     let none : seat_of (without id_of id xs) x.id ≡ None = gone xs id x d e in
     let mine : time x.id ≡ Some (length history) = rw (eq-eqb id x.id (sym named)) refl in
-    let rest = timely-others (last_served history) time id (without id_of id xs) (ap (seat_of (without id_of id xs)) (sym named) ∙ none) (λ q n. rw (ne_eqb id q (λ s. n (sym s))) refl) (timely-without (last_served history) id xs t) in
+    let rest = timely-others (last_served history) time id (without id_of id xs) (ap (seat_of (without id_of id xs)) (sym named) ∙ none) (λ q n. rw (ne_eqb id q (λ s. n (sym s))) refl) (timely-without (last_served history) id xs x e t) in
     timely-push time (without id_of id xs) (served_now x) (sym (ap is_some mine))
     (λ q.
     ⊎_elim
@@ -101,13 +112,11 @@ timely-after history (entered id p) xs d a t =
     timely-push time xs (new_seat id p) (sym (ap is_some mine)) (λ q. inl (never-late (time q) (time id) mine)) none
     (timely-others (last_served history) time id xs none (λ q n. rw (ne_eqb id q (λ s. n (sym s))) refl) t)
 timely-after history (altered id p) xs d a t =
-    record {
-      marked = all-altering (Marked (last_served history)) xs id p (λ x m. m) t.marked;
-      rising = each-altering (InOrder (last_served history)) xs id p (λ x y r. r) (λ x y r. r) t.rising;
-    }
+    timely-alike (last_served history) (last_served history) xs (altering id p xs) (length-altering xs id p) (λ k e. altering-same (λ x. x.served) xs id p k e (λ x. refl)) (λ k e. altering-same (λ x. last_served history x.id) xs id p k e (λ x. refl)) t
 timely-after history (left id) xs d a t =
+    let x = in_some xs id a in
     timely-others (last_served history) (last_served (left id ∷ history)) id (without id_of id xs) (record-without id_of xs id id d ∙ rw (eq-eqb id id refl) refl) (λ q n. rw (ne_eqb id q (λ s. n (sym s))) refl)
-    (timely-without (last_served history) id xs t)
+    (timely-without (last_served history) id xs x.0 x.1 t)
 timely-after history (served id octets) xs d a t = timely-end history id octets xs (seat_of xs id) d refl t
 
 -- the order after a history of accepted events
@@ -117,7 +126,7 @@ pub record Reached (history : List Event) : Type 0 where
   pub timely : Timely (last_served history) (order_of history)
 
 pub reached : (history : List Event) → Accepted history → Reached history
-reached [] a = record { kept = record { few = omega arith; roomy = omega arith; distinct = tt }; means = refl; timely = record { marked = tt; rising = tt } }
+reached [] a = record { kept = record { few = omega arith; roomy = omega arith; distinct = tt }; means = refl; timely = record { marked = λ k d h. absurd (omega arith); rising = λ i j d l h. absurd (omega arith) } }
 reached (event ∷ history) a =
     let r = reached history a.1 in
     let xs = order_of history in

@@ -1,5 +1,5 @@
 -- The seat that comes first is that of the id that has waited longest.
-use Rattle.std.proofs.Common.{◌≡◌, ℕ, true, List, map, Some, None, Option, ap, ◌∙◌, subst, inl, inr, ⊎_elim}
+use Rattle.std.proofs.Common.{get_or, ◌≡◌, ℕ, true, List, map, Some, None, Option, ap, ◌∙◌, subst, inl, inr, ⊎_elim}
 use Rattle.std.specs.Option.{option_map}
 use Rattle.records.specs.Records.{seek}
 use Rattle.records.proofs.Lookups.{record-named}
@@ -11,16 +11,18 @@ use Rattle.rotation.specs.Choices.{before, standing_of, First}
 use Rattle.rotation.specs.Places.{mapped-some, mapped-none}
 use Rattle.waiting.specs.Histories.{last_served, Placed}
 use Rattle.waiting.specs.Waits.{Rule, GoesBefore, Answers, order_of, ByHistory}
-use Rattle.waiting.proofs.Pairs.{all-seat, each-ahead}
+use Rattle.waiting.proofs.Seats.{seat-there, seat-at}
 use Rattle.waiting.proofs.Timing.{Marked, InOrder, Timely, reached}
 
 -- the seats of an order that agrees with a history are so placed
 placed-in : (history : List Event) (xs : List Seat) (p q : ℕ) (a b : Seat) → Timely (last_served history) xs → seat_of xs p ≡ Some a → seat_of xs q ≡ Some b → Placed history (seek (map id_of xs) p) (seek (map id_of xs) q) a b
 placed-in history xs p q a b timely is its =
+    let here = seat-there xs p a is in
+    let there = seat-there xs q b its in
     record {
-      one = all-seat (Marked (last_served history)) xs p a timely.marked is;
-      other = all-seat (Marked (last_served history)) xs q b timely.marked its;
-      ahead = each-ahead (InOrder (last_served history)) xs p q a b timely.rising is its;
+      one = subst (Marked (last_served history)) (seat-at xs p a a is) (timely.marked _ a here);
+      other = subst (Marked (last_served history)) (seat-at xs q b a its) (timely.marked _ a there);
+      ahead = λ h. subst (InOrder (last_served history) a) (seat-at xs q b a its) (subst (λ x. InOrder (last_served history) x (get_or xs (seek (map id_of xs) q) a)) (seat-at xs p a a is) (timely.rising _ _ a h there));
     }
 
 -- a rule by which the seats that stand first go first
