@@ -4,6 +4,7 @@
 pub mod byte_sinks;
 pub mod counting_sinks;
 pub mod sinks;
+pub mod tallied_sinks;
 pub mod tallies;
 
 pub use byte_sinks::{ByteSink, write_pair};

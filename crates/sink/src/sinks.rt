@@ -1,5 +1,5 @@
 // What a sink is: where DATA frames go.
-ghost use Rattle.std.specs.Prelude.{◌≡◌, ℕ, ◌^◌, ◌<◌, Bool, true, false, List, is_ok, Option};
+ghost use Rattle.std.specs.Prelude.{◌≡◌, ℕ, ◌^◌, ◌<◌, Bool, List};
 ghost use Rattle.sink.specs.Meaning.{Meaning, whole};
 ghost use Rattle.sink.specs.Puts.{Did, DidPair};
 
@@ -35,10 +35,12 @@ pub trait Sink {
     fn latest(&self) -> Option<Latest>
         ensures { result ≡ (meaning self.now).latest };
 
-    // The octets that frames can still take, headers counted; with what was taken they never pass 64 bits.
+    // The octets that frames can still take, headers counted.
     fn space(&self) -> u64
-        ensures tells { result ≡ (meaning self.now).space }
-        ensures bounded { whole (meaning self.now) < 2 ^ 64 };
+        ensures { result ≡ (meaning self.now).space };
+
+    // what was taken and what is left never pass 64 bits together
+    ghost bounded: { (s : Self) → whole (meaning s) < 2 ^ 64 };
 }
 
 // Puts two frames of a stream, the second with END_STREAM; the second is not put where the first is refused.
