@@ -6,6 +6,7 @@ use crate::tallied_sinks::{Backing, Tallied};
 // A sink over a given space alone.
 pub type CountingSink = Tallied<u32>;
 
+// A bare space, behind which frames are dropped.
 impl Backing for u32 {
     ghost limit = { λ s. s };
 

@@ -10,4 +10,5 @@ pub mod tallies;
 pub use byte_sinks::{ByteSink, write_pair};
 pub use counting_sinks::CountingSink;
 pub use sinks::{Refusal, Sink, put_pair};
+pub use tallied_sinks::{Backing, Tallied};
 pub use tallies::Latest;

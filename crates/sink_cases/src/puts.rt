@@ -22,86 +22,52 @@ fn told_by<S: Sink>(sink: &S) -> Told {
     }
 }
 
-// A frame of stream 1 with END_STREAM, and what a sink of some space makes of it.
-#[derive(Clone, Copy)]
-struct Case {
-    space: usize,
-    payload: &'static [u8],
-    taken: bool,
-}
+// A space, the payload of a frame of stream 1 with END_STREAM, and whether the frame is taken.
+type Case = (usize, &'static [u8], bool);
 
 const CASES: [Case; 8] = [
-    Case {
-        space: 0,
-        payload: b"",
-        taken: false,
-    },
-    Case {
-        space: 8,
-        payload: b"",
-        taken: false,
-    },
-    Case {
-        space: 9,
-        payload: b"",
-        taken: true,
-    },
-    Case {
-        space: 9,
-        payload: b"a",
-        taken: false,
-    },
-    Case {
-        space: 10,
-        payload: b"a",
-        taken: true,
-    },
-    Case {
-        space: 14,
-        payload: b"abcdef",
-        taken: false,
-    },
-    Case {
-        space: 15,
-        payload: b"abcdef",
-        taken: true,
-    },
-    Case {
-        space: 1000,
-        payload: b"abcdef",
-        taken: true,
-    },
+    (0, b"", false),
+    (8, b"", false),
+    (9, b"", true),
+    (9, b"a", false),
+    (10, b"a", true),
+    (14, b"abcdef", false),
+    (15, b"abcdef", true),
+    (1000, b"abcdef", true),
 ];
 
 // Puts a case's frame, and checks the answer and what the sink tells before and after.
-fn check_case<S: Sink>(rt: &impl Abort, sink: &mut S, case: Case) -> Result<(), Fail> {
+fn check_case<S: Sink>(
+    rt: &impl Abort,
+    sink: &mut S,
+    (space, payload, taken): Case,
+) -> Result<(), Fail> {
     let before = Told {
         frames: 0,
         octets: 0,
         latest: None,
-        space: case.space as u64,
+        space: space as u64,
     };
     assert_eq!(rt; told_by(sink), before);
-    let answer = sink.put(1, true, case.payload);
-    if !case.taken {
+    let answer = sink.put(1, true, payload);
+    if !taken {
         assert_eq!(rt; answer, Err(Refusal::Full));
         assert_eq!(rt; told_by(sink), before);
         return Ok(());
     }
     assert_eq!(rt; answer, Ok(()));
-    let length = case.payload.len();
-    let latest = Latest {
+    let length = u32::try_from(payload.len())?;
+    let octets = u64::from(length);
+    let latest = Some(Latest {
         id: 1,
         end: true,
-        length: u32::try_from(length)?,
-    };
+        length,
+    });
     let after = Told {
         frames: 1,
-        octets: length as u64,
-        latest: Some(latest),
-        space: (case.space as u64)
-            .saturating_sub(9)
-            .saturating_sub(length as u64),
+        octets,
+        latest,
+        space: before.space.saturating_sub(9 + octets),
     };
     assert_eq!(rt; told_by(sink), after);
     Ok(())
@@ -110,11 +76,8 @@ fn check_case<S: Sink>(rt: &impl Abort, sink: &mut S, case: Case) -> Result<(), 
 #[test]
 fn counting_sinks(rt: HostRuntime) -> Result<(), Fail> {
     for case in CASES {
-        check_case(
-            &rt,
-            &mut CountingSink::new(u32::try_from(case.space)?),
-            case,
-        )?;
+        let (space, _, _) = case;
+        check_case(&rt, &mut CountingSink::new(u32::try_from(space)?), case)?;
     }
     Ok(())
 }
@@ -122,11 +85,10 @@ fn counting_sinks(rt: HostRuntime) -> Result<(), Fail> {
 #[test]
 fn byte_sinks(rt: HostRuntime) -> Result<(), Fail> {
     for case in CASES {
-        let mut memory = vec![in rt.alloc(); 7u8; case.space]?;
+        let (space, _, taken) = case;
+        let mut memory = vec![in rt.alloc(); 7u8; space]?;
         check_case(&rt, &mut ByteSink::new(memory.as_mut_slice()), case)?;
-        if !case.taken {
-            assert_eq!(rt; memory.iter().copied().min().unwrap_or(7), 7);
-        }
+        assert!(rt; taken || memory.iter().all(|octet| *octet == 7));
     }
     Ok(())
 }
