@@ -19,7 +19,7 @@ pub trait Sink {
     // what taking a frame did to the sink in full
     ghost took: { Self → ℕ → Bool → List ℕ → Self → Type 0 };
 
-    // Takes a DATA frame of a stream, with END_STREAM or not; its parts are apart, as `write_data` takes them.
+    // Takes a DATA frame of a stream, with END_STREAM or not; what it is made of comes apart, as callers have it.
     fn put(&mut self, id: u32, end: bool, payload: &[u8]) -> Result<(), Refusal>
         ensures { Did meaning took id end payload.now self.old result self.new };
 
