@@ -216,16 +216,7 @@ fn cap_beside_a_short_connection(rt: HostRuntime) -> Result<(), Fail> {
 }
 
 // One stream under two caps, the lower of 300.
-const UNDER_300: Step = Step {
-    call: Call::Begin(1),
-    accepted: true,
-    stream: 1,
-    window: Some(65_535),
-    held: None,
-    room: 300,
-    connection_window: 65_535,
-    connection_held: 0,
-};
+const UNDER_300: Step = Step { room: 300, ..BEGUN };
 
 fn check_300(rt: &impl Abort, heap: Global, inner: u32, outer: u32) -> Result<(), Fail> {
     let held = Step {

@@ -191,80 +191,48 @@ fn begun_at_an_initial_window_of_0(rt: HostRuntime) -> Result<(), Fail> {
 // A connection and a first stream at their most, all of it held and then spent.
 const RAISED: Step = Step {
     call: Call::Raise(0, 2_147_418_112),
-    accepted: true,
-    stream: 1,
-    window: None,
-    held: None,
-    room: 0,
     connection_window: 2_147_483_647,
-    connection_held: 0,
+    ..FRESH
 };
 
 const SET: Step = Step {
     call: Call::Initial(2_147_483_647),
-    accepted: true,
-    stream: 1,
-    window: None,
-    held: None,
-    room: 0,
-    connection_window: 2_147_483_647,
-    connection_held: 0,
+    ..RAISED
 };
 
 const FULL: Step = Step {
     call: Call::Begin(1),
-    accepted: true,
-    stream: 1,
     window: Some(2_147_483_647),
-    held: None,
     room: 2_147_483_647,
-    connection_window: 2_147_483_647,
-    connection_held: 0,
+    ..RAISED
 };
 
 const ALL_HELD: Step = Step {
     call: Call::Hold(1, 2_147_483_647),
-    accepted: true,
-    stream: 1,
-    window: Some(2_147_483_647),
     held: Some(2_147_483_647),
     room: 0,
-    connection_window: 2_147_483_647,
     connection_held: 2_147_483_647,
+    ..FULL
 };
 
 const ALL_SPENT: Step = Step {
     call: Call::Spend(1, 2_147_483_647),
-    accepted: true,
-    stream: 1,
     window: Some(0),
-    held: None,
-    room: 0,
     connection_window: 0,
-    connection_held: 0,
+    ..FRESH
 };
 
 const LEAST: Step = Step {
     call: Call::Initial(0),
-    accepted: true,
-    stream: 1,
     window: Some(-2_147_483_647),
-    held: None,
-    room: 0,
-    connection_window: 0,
-    connection_held: 0,
+    ..ALL_SPENT
 };
 
 // All of it held when the initial window falls to 0, so that the stream's left is -2,147,483,647.
 const LEAST_LEFT: Step = Step {
     call: Call::Initial(0),
-    accepted: true,
-    stream: 1,
     window: Some(0),
-    held: Some(2_147_483_647),
-    room: 0,
-    connection_window: 2_147_483_647,
-    connection_held: 2_147_483_647,
+    ..ALL_HELD
 };
 
 #[test]

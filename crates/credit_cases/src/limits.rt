@@ -30,14 +30,13 @@ fn finish_64(steps: &mut Vec<Step>) -> Result<(), Fail> {
 
 // The streams 1 to 64, each of which holds 1,000 octets.
 fn hold_64(steps: &mut Vec<Step>) -> Result<(), Fail> {
-    let mut together = 0u32;
     for id in 1..=64u32 {
-        together = together.saturating_add(1_000);
+        let together = 1_000 * id;
         steps.push(Step {
             call: Call::Hold(id, 1_000),
             stream: id,
             held: Some(1_000),
-            room: 65_535u32.saturating_sub(together),
+            room: 65_535 - together,
             connection_held: together,
             ..BEGUN
         })?;
@@ -134,56 +133,45 @@ fn all_moved_alike(rt: HostRuntime) -> Result<(), Fail> {
 const UNEVEN: [Step; 4] = [
     Step {
         call: Call::Hold(1, 1_000),
-        accepted: true,
-        stream: 1,
-        window: Some(65_535),
         held: Some(1_000),
         room: 64_535,
-        connection_window: 65_535,
         connection_held: 1_000,
+        ..BEGUN
     },
     Step {
         call: Call::Spend(1, 1_000),
-        accepted: true,
-        stream: 1,
         window: Some(64_535),
-        held: None,
         room: 64_535,
         connection_window: 64_535,
-        connection_held: 0,
+        ..BEGUN
     },
     Step {
         call: Call::Raise(64, 500),
-        accepted: true,
         stream: 64,
         window: Some(66_035),
-        held: None,
         room: 64_535,
         connection_window: 64_535,
-        connection_held: 0,
+        ..BEGUN
     },
     Step {
         call: Call::Hold(33, 10),
-        accepted: true,
         stream: 33,
-        window: Some(65_535),
         held: Some(10),
         room: 64_525,
         connection_window: 64_535,
         connection_held: 10,
+        ..BEGUN
     },
 ];
 
 // The second of these streams, which the others leave at 65,535.
 const SECOND: Step = Step {
     call: Call::Raise(0, 0),
-    accepted: true,
     stream: 2,
-    window: Some(65_535),
-    held: None,
     room: 64_525,
     connection_window: 64_535,
     connection_held: 10,
+    ..BEGUN
 };
 
 #[test]

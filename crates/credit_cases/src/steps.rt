@@ -102,13 +102,9 @@ pub const FRESH: Step = Step {
 // The first stream of a fresh gate.
 pub const BEGUN: Step = Step {
     call: Call::Begin(1),
-    accepted: true,
-    stream: 1,
     window: Some(65_535),
-    held: None,
     room: 65_535,
-    connection_window: 65_535,
-    connection_held: 0,
+    ..FRESH
 };
 
 // The initial window and the number of streams after an accepted call.

@@ -5,58 +5,41 @@ use std::test::*;
 // Of a first stream's 65,535 octets 60,000 are held and spent, and then the initial window falls.
 const MOST_HELD: Step = Step {
     call: Call::Hold(1, 60_000),
-    accepted: true,
-    stream: 1,
-    window: Some(65_535),
     held: Some(60_000),
     room: 5_535,
-    connection_window: 65_535,
     connection_held: 60_000,
+    ..BEGUN
 };
 
 const MOST_SPENT: Step = Step {
     call: Call::Spend(1, 60_000),
-    accepted: true,
-    stream: 1,
     window: Some(5_535),
-    held: None,
     room: 5_535,
     connection_window: 5_535,
-    connection_held: 0,
+    ..BEGUN
 };
 
 const BELOW: Step = Step {
     call: Call::Initial(16_384),
-    accepted: true,
-    stream: 1,
     window: Some(-43_616),
-    held: None,
     room: 0,
-    connection_window: 5_535,
-    connection_held: 0,
+    ..MOST_SPENT
 };
 
 // Of a first stream's 65,535 octets 10,000 are held, and then the initial window falls, so that its left is -6,000.
 const HELD: Step = Step {
     call: Call::Hold(1, 10_000),
-    accepted: true,
-    stream: 1,
-    window: Some(65_535),
     held: Some(10_000),
     room: 55_535,
-    connection_window: 65_535,
     connection_held: 10_000,
+    ..BEGUN
 };
 
 const SHORT: Step = Step {
     call: Call::Initial(4_000),
-    accepted: true,
-    stream: 1,
     window: Some(4_000),
-    held: Some(10_000),
     room: 0,
-    connection_window: 65_535,
-    connection_held: 10_000,
+    ..HELD
 };
 
 #[test]
