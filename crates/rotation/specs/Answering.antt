@@ -1,5 +1,5 @@
 -- What the answers of a rotation tell of a policy.
-use Rattle.std.specs.Prelude.{◌≡◌, ℕ, ◌+◌, ◌<◌, ◌≤◌, min, Bool, true, false, cond, List, [], ◌∷◌, ◌++◌, map, length, is_some, Some, None, Option, ◌≢◌, nat_lt}
+use Rattle.std.specs.Prelude.{◌≡◌, ℕ, ◌+◌, ◌<◌, ◌≤◌, Bool, true, false, cond, List, [], ◌∷◌, ◌++◌, map, length, is_some, Some, None, Option, ◌≢◌, nat_lt}
 use Rattle.std.specs.Borrow.{Bor}
 use Rattle.std.proofs.Common.{arith, sym, ◌∙◌, ap, subst, ⊎_elim}
 use Rattle.std.specs.Option.{option_map}
@@ -14,10 +14,10 @@ use Rattle.schedule.specs.Ranks.{Ranks, Event, Accepts, Listed, Least, entered, 
 use Rattle.schedule.specs.Policies.{Did}
 use Rattle.rotation.specs.declared.seats.Seat.{Seat}
 use Rattle.rotation.specs.declared.standings.Standing.{Standing}
-use Rattle.rotation.specs.Orders.{id_of, priority_of, seat_of, ranked, Kept, new_seat, served_now, to_end, order_after, Turned}
+use Rattle.rotation.specs.Orders.{id_of, priority_of, seat_of, ranked, Distinct, new_seat, served_now, to_end, Turned}
 use Rattle.rotation.specs.Choices.{before, standing_of, First}
 use Rattle.rotation.specs.Places.{mapped-some, mapped-none}
-use Rattle.rotation.specs.Turning.{kept-after}
+use Rattle.rotation.specs.Turning.{distinct-after}
 
 -- a call that is refused, and one that is accepted
 pub refused : {P : Type 0} {ranks : P → Ranks} {turned : P → Event → P → Type 0} {event : Event} {s t : P} → (Accepts (ranks s) event → ⊥) → t ≡ s → Did ranks turned event s false t
@@ -26,15 +26,13 @@ refused never same = record { answers = (λ e. absurd (false≢true e), λ a. ab
 pub done : {P : Type 0} {ranks : P → Ranks} {turned : P → Event → P → Type 0} {event : Event} {s : P} {r : Bool} {t : P} → r ≡ true → Accepts (ranks s) event → turned s event t → Did ranks turned event s r t
 done e accepted turns = record { answers = (λ z. accepted, λ a. e); turns = λ z. turns; stays = λ z. absurd (true≢false (sym e ∙ z)) }
 
--- an accepted event keeps an order
-pub kept-turned : (xs ys : List Seat) (m n : ℕ) (event : Event) → Kept xs m → Turned xs event ys → n ≡ m → Kept ys n
-kept-turned xs ys m n event k t same =
-    let w = kept-after xs m event k t.accepted in
-    subst (λ zs. Kept zs n) (sym t.order) (subst (Kept (order_after xs event)) (sym same) w)
+-- an accepted event leaves an order of different ids
+pub distinct-turned : (xs ys : List Seat) (event : Event) → Distinct xs → Turned xs event ys → Distinct ys
+distinct-turned xs ys event d t = subst Distinct (sym t.order) (distinct-after xs event d t.accepted)
 
 -- a table with fewer than 64 seats takes one more
-pub room : (xs : List Seat) (m : ℕ) (r : Bool) → Kept xs m → length xs < 64 → r ≡ nat_lt (length xs) (min 64 m) → r ≡ true
-room xs m r k h e = let few : length xs < min 64 m = omega (arith, k.roomy) in e ∙ lt-ltb (length xs) (min 64 m) few
+pub room : (xs : List Seat) (r : Bool) → length xs < 64 → r ≡ nat_lt (length xs) 64 → r ≡ true
+room xs r few e = e ∙ lt-ltb (length xs) 64 few
 
 -- an id that has a seat is in, and another is not
 pub is_in : (xs : List Seat) (id : ℕ) (x : Seat) → Is id_of xs id x → is_some ((ranked xs).rank id) ≡ true
@@ -63,20 +61,20 @@ not_lent xs id None none e = is-out xs id none
 not_lent xs id (Some x) is e = absurd cc
 
 -- a new seat at the end
-pub entered-turned : (xs ys : List Seat) (m id : ℕ) (p : Priority) (r : Bool) → Kept xs m → (ranked xs).rank id ≡ None → length xs < 64
-    → r ≡ nat_lt (length xs) (min 64 m) → ys ≡ cond r (xs ++ new_seat id p ∷ []) xs → Turned xs (entered id p) ys
-entered-turned xs ys m id p r k none few answers rows = record { accepted = (none, few); order = rows ∙ cond-true r _ _ (room xs m r k few answers) }
+pub entered-turned : (xs ys : List Seat) (id : ℕ) (p : Priority) (r : Bool) → (ranked xs).rank id ≡ None → length xs < 64
+    → r ≡ nat_lt (length xs) 64 → ys ≡ cond r (xs ++ new_seat id p ∷ []) xs → Turned xs (entered id p) ys
+entered-turned xs ys id p r none few answers rows = record { accepted = (none, few); order = rows ∙ cond-true r _ _ (room xs r few answers) }
 
 -- a seat that was taken out and put at the end as served
-pub served-turned : (xs rest ys : List Seat) (m n id octets : ℕ) (x : Seat) (r : Bool) → Kept xs m → Is id_of xs id x → rest ≡ without id_of id xs → n ≡ m
-    → r ≡ nat_lt (length rest) (min 64 n) → ys ≡ cond r (rest ++ served_now x ∷ []) rest → Turned xs (served id octets) ys
-served-turned xs rest ys m n id octets x r k is gone same answers rows =
+pub served-turned : (xs rest ys : List Seat) (id octets : ℕ) (x : Seat) (r : Bool) → length xs ≤ 64 → Is id_of xs id x → rest ≡ without id_of id xs
+    → r ≡ nat_lt (length rest) 64 → ys ≡ cond r (rest ++ served_now x ∷ []) rest → Turned xs (served id octets) ys
+served-turned xs rest ys id octets x r most is gone answers rows =
     let seat = record-found id_of xs id x is in
     let fewer : length rest + 1 ≡ length xs = ap (λ zs. length zs + 1) gone ∙ length_without id_of xs id x seat in
-    let few : length rest < min 64 n = omega (arith, k.few, k.roomy) in
+    let few : length rest < 64 = omega (arith, most) in
     record {
       accepted = tt;
-      order = rows ∙ cond-true r _ _ (answers ∙ lt-ltb (length rest) (min 64 n) few) ∙ ap (λ zs. zs ++ served_now x ∷ []) gone ∙ ap (λ o. to_end id o xs) (sym seat);
+      order = rows ∙ cond-true r _ _ (answers ∙ lt-ltb (length rest) 64 few) ∙ ap (λ zs. zs ++ served_now x ∷ []) gone ∙ ap (λ o. to_end id o xs) (sym seat);
     }
 
 -- and where the id has no seat, nothing happens

@@ -2,7 +2,7 @@
 -- A seat is an id's place in the order: the id, its priority, and whether it was served since it entered.
 -- An order is a list of seats. A new seat goes to the end, and so does a seat whenever its id is served:
 -- of the seats that were served, the one served longest ago stands foremost.
-use Rattle.std.specs.Prelude.{◌≡◌, ℕ, ◌≤◌, true, false, cond, List, [], ◌∷◌, ◌++◌, length, Some, None, Option, ◌==◌}
+use Rattle.std.specs.Prelude.{◌≡◌, ℕ, true, false, cond, List, [], ◌∷◌, ◌++◌, length, Some, None, Option, ◌==◌}
 use Rattle.std.specs.Option.{option_map}
 use Rattle.std.proofs.Props.{props}
 use Rattle.records.specs.Tables.{without, record_of}
@@ -29,19 +29,10 @@ ranked xs = record { rank = λ id. option_map priority_of (seat_of xs id); enter
 abbrev pub Distinct : List Seat → Type 0
 Distinct xs = tables.Distinct id_of xs
 
--- an order is kept: at most 64 seats with different ids, and memory for 64
-pub record Kept (xs : List Seat) (memory : ℕ) : Type 0 where
-  pub few : length xs ≤ 64
-  pub roomy : 64 ≤ memory
-  pub distinct : Distinct xs
-
--- that an order is kept has one proof, so a type may keep it
-distinct_prop : (xs : List Seat) → IsProp (Distinct xs)
+-- that has one proof, so a type may keep it
+pub distinct_prop : (xs : List Seat) → IsProp (Distinct xs)
 distinct_prop [] = Prim.hlevel props
 distinct_prop (x ∷ xs) = Prim.hlevel (props, distinct_prop xs)
-
-pub kept_prop : (xs : List Seat) (memory : ℕ) → IsProp (Kept xs memory)
-kept_prop xs memory = Prim.hlevel (props, distinct_prop)
 
 abbrev pub new_seat : ℕ → Priority → Seat
 new_seat id p = record { id = id; priority = p; served = false }

@@ -12,7 +12,7 @@ use Rattle.records.proofs.Lookups.{record-named, record-push, record-without, le
 use Rattle.wire.specs.declared.priorities.Priority.{Priority}
 use Rattle.schedule.specs.Ranks.{Ranks, Event, Accepts, after, entered, altered, left, served}
 use Rattle.rotation.specs.declared.seats.Seat.{Seat}
-use Rattle.rotation.specs.Orders.{id_of, priority_of, seat_of, ranked, Distinct, Kept, new_seat, with_priority, served_now, altering, to_end, order_after, Turned}
+use Rattle.rotation.specs.Orders.{id_of, priority_of, seat_of, ranked, Distinct, new_seat, with_priority, served_now, altering, to_end, order_after, Turned}
 use Rattle.rotation.specs.Places.{mapped-none}
 
 -- another priority
@@ -93,24 +93,12 @@ in_some xs id h = go (seat_of xs id) h
     go None k = absurd (false≢true k)
     go (Some x) k = (x, refl)
 
--- every accepted event keeps an order
-pub kept-after : (xs : List Seat) (memory : ℕ) (event : Event) → Kept xs memory → Accepts (ranked xs) event → Kept (order_after xs event) memory
-kept-after xs memory (entered id p) k a =
-    record {
-      few = omega (arith, length_push xs (new_seat id p), a.1);
-      roomy = k.roomy;
-      distinct = distinct_push xs (new_seat id p) k.distinct (mapped-none priority_of (seat_of xs id) a.0);
-    }
-kept-after xs memory (altered id p) k a = record { few = omega (arith, length-altering xs id p, k.few); roomy = k.roomy; distinct = distinct-altering xs id p k.distinct }
-kept-after xs memory (left id) k a =
-    let x = in_some xs id a in
-    record { few = omega (arith, length_without id_of xs id x.0 x.1, k.few); roomy = k.roomy; distinct = distinct_without xs id k.distinct }
-kept-after xs memory (served id n) k a =
-    record {
-      few = omega (arith, length-to_end xs id (seat_of xs id) refl, k.few);
-      roomy = k.roomy;
-      distinct = distinct-to_end xs id (seat_of xs id) k.distinct refl;
-    }
+-- every accepted event leaves an order of different ids
+pub distinct-after : (xs : List Seat) (event : Event) → Distinct xs → Accepts (ranked xs) event → Distinct (order_after xs event)
+distinct-after xs (entered id p) d a = distinct_push xs (new_seat id p) d (mapped-none priority_of (seat_of xs id) a.0)
+distinct-after xs (altered id p) d a = distinct-altering xs id p d
+distinct-after xs (left id) d a = distinct_without xs id d
+distinct-after xs (served id n) d a = distinct-to_end xs id (seat_of xs id) d refl
 
 -- two meanings with the same priorities
 same-ranks : {f g : ℕ → Option Priority} {n m : ℕ} → ((q : ℕ) → f q ≡ g q) → n ≡ m → ◌≡◌ {A = Ranks} (record { rank = f; entered = n; limit = 64 }) (record { rank = g; entered = m; limit = 64 })

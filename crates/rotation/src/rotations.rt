@@ -1,7 +1,7 @@
 // A rotation: an order of seats under a rule.
-ghost use Rattle.std.specs.Prelude.{◌≡◌, [], IfOk, None, vec_capacity};
+ghost use Rattle.std.specs.Prelude.{◌≡◌, [], IfOk, None};
 ghost use Rattle.schedule.specs.Ranks.{fresh};
-ghost use Rattle.rotation.specs.Orders.{ranked, Kept, kept_prop};
+ghost use Rattle.rotation.specs.Orders.{ranked, Distinct, distinct_prop};
 ghost use Rattle.rotation.specs.Choices.{standing_of, better, chosen, First};
 
 use crate::rules::{InTurn, PlainFirst, Rule};
@@ -18,7 +18,7 @@ pub mod calls;
 pub struct Rotation<R> {
     table: Table<Seat>,
     rule: PhantomData<R>,
-    pub ghost kept: { Kept table.rows.items (vec_capacity table.rows) } by { kept_prop table.rows.items (vec_capacity table.rows) },
+    pub ghost distinct: { Distinct table.rows.items } by { distinct_prop table.rows.items },
 }
 
 // Takes, within the least urgency, the id served longest ago.

@@ -8,9 +8,9 @@ use Rattle.records.proofs.Rows.{without-first}
 use Rattle.records.proofs.Lookups.{record-named, record-without}
 use Rattle.schedule.specs.Ranks.{Event, Accepts, after, entered, altered, left, served}
 use Rattle.rotation.specs.declared.seats.Seat.{Seat}
-use Rattle.rotation.specs.Orders.{id_of, seat_of, ranked, Distinct, Kept, new_seat, served_now, altering, to_end, order_after}
+use Rattle.rotation.specs.Orders.{id_of, seat_of, ranked, Distinct, new_seat, served_now, altering, to_end, order_after}
 use Rattle.rotation.specs.Places.{mapped-none}
-use Rattle.rotation.specs.Turning.{gone, in_some, length-altering, kept-after, ranked-after}
+use Rattle.rotation.specs.Turning.{gone, in_some, length-altering, distinct-after, ranked-after}
 use Rattle.waiting.specs.Histories.{ranks_after, Accepted, last_served, Earlier}
 use Rattle.waiting.specs.Waits.{order_of}
 use Rattle.waiting.proofs.Seats.{seat-there, all_others, all_remove, altering-same}
@@ -121,18 +121,18 @@ timely-after history (served id octets) xs d a t = timely-end history id octets 
 
 -- the order after a history of accepted events
 pub record Reached (history : List Event) : Type 0 where
-  pub kept : Kept (order_of history) 64
+  pub distinct : Distinct (order_of history)
   pub means : ranked (order_of history) ≡ ranks_after history
   pub timely : Timely (last_served history) (order_of history)
 
 pub reached : (history : List Event) → Accepted history → Reached history
-reached [] a = record { kept = record { few = omega arith; roomy = omega arith; distinct = tt }; means = refl; timely = record { marked = λ k d h. absurd (omega arith); rising = λ i j d l h. absurd (omega arith) } }
+reached [] a = record { distinct = tt; means = refl; timely = record { marked = λ k d h. absurd (omega arith); rising = λ i j d l h. absurd (omega arith) } }
 reached (event ∷ history) a =
     let r = reached history a.1 in
     let xs = order_of history in
     let accepts : Accepts (ranked xs) event = subst (λ m. Accepts m event) (sym r.means) a.0 in
     record {
-      kept = kept-after xs 64 event r.kept accepts;
-      means = ranked-after xs event r.kept.distinct accepts ∙ ap (λ m. after m event) r.means;
-      timely = timely-after history event xs r.kept.distinct accepts r.timely;
+      distinct = distinct-after xs event r.distinct accepts;
+      means = ranked-after xs event r.distinct accepts ∙ ap (λ m. after m event) r.means;
+      timely = timely-after history event xs r.distinct accepts r.timely;
     }

@@ -32,7 +32,7 @@ impl<R: Rule> Policy for Rotation<R> {
         let rule = R.Rule.stands in
         least-from rule R.Rule.urgent order ids (chosen (standing_of rule order) None ids) (chosen-first (standing_of rule order) (stands-apart rule R.Rule.apart order) ids) };
 
-    ghost means = { λ s event t turned. turned-means s.table.rows.items t.table.rows.items event s.kept.distinct turned };
+    ghost means = { λ s event t turned. turned-means s.table.rows.items t.table.rows.items event s.distinct turned };
 
     fn enter(&mut self, id: u32, priority: Priority) -> bool {
         // A full table promises its seats alone, and a refusal leaves all of the policy as it was.

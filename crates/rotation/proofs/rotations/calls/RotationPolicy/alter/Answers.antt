@@ -1,12 +1,12 @@
-use Rattle.std.proofs.Common.{◌≡◌, ℕ, List, map, set, vec_items, vec_capacity, refl, ap}
+use Rattle.std.proofs.Common.{◌≡◌, ℕ, List, map, set, vec_items, refl, ap}
 use Rattle.schedule.specs.Ranks.{altered}
 use Rattle.records.specs.Records.{seek}
 use Rattle.records.specs.Tables.{Is}
 use Rattle.wire.specs.declared.priorities.Priority.{Priority}
 use Rattle.rotation.specs.declared.seats.Seat.{Seat}
 use Rattle.rotation.specs.declared.rotations.Rotation.{Rotation}
-use Rattle.rotation.specs.Orders.{Kept, kept_prop, Turned, id_of, with_priority}
-use Rattle.rotation.specs.Answering.{refused, done, kept-turned, is_in, not_in}
+use Rattle.rotation.specs.Orders.{Distinct, distinct_prop, Turned, id_of, with_priority}
+use Rattle.rotation.specs.Answering.{refused, done, distinct-turned, is_in, not_in}
 use Rattle.rotation.specs.Turning.{altering-found}
 use Rattle.rotation.proofs.rotations.calls.RotationPolicy.alter.Goals as goal
 
@@ -14,9 +14,9 @@ use Rattle.rotation.proofs.rotations.calls.RotationPolicy.alter.Goals as goal
 now-altered : (order : List Seat) (id : ℕ) (p : Priority) (x : Seat) → Is id_of order id x → Turned order (altered id p) (set order (seek (map id_of order) id) (with_priority p x))
 now-altered order id p x is = record { accepted = is_in order id x is; order = altering-found order id p x is.there is.at }
 
--- that an order is kept has one proof
-same : {R : Type 0} (s : Rotation R) (kept : Kept (vec_items s.table.rows) (vec_capacity s.table.rows)) → ◌≡◌ {A = Rotation R} (record { table = s.table; rule = s.rule; kept = kept }) s
-same s kept = ap (λ k. record { table = s.table; rule = s.rule; kept = k }) (kept_prop _ _ kept s.kept)
+-- that ids differ has one proof
+same : {R : Type 0} (s : Rotation R) (distinct : Distinct (vec_items s.table.rows)) → ◌≡◌ {A = Rotation R} (record { table = s.table; rule = s.rule; distinct = distinct }) s
+same s distinct = ap (λ d. record { table = s.table; rule = s.rule; distinct = d }) (distinct_prop _ distinct s.distinct)
 
 pub returns-in_default : goal.returns-in_default
 returns-in_default g c = refused (not_in (vec_items c.args.self.now.table.rows) c.args.id c.in_default.ensures.finds) (same c.args.self.now _)
@@ -24,7 +24,7 @@ returns-in_default g c = refused (not_in (vec_items c.args.self.now.table.rows) 
 pub invariant_of-self-2 : goal.invariant_of-self-2
 invariant_of-self-2 g c =
     let order = vec_items c.args.self.now.table.rows in
-    record { kept = kept-turned order _ _ _ (altered c.args.id c.args.priority) c.args.self.now.kept (now-altered order c.args.id c.args.priority c.in-Some.seat.now c.in-Some.ensures.finds) refl }
+    record { distinct = distinct-turned order _ (altered c.args.id c.args.priority) c.args.self.now.distinct (now-altered order c.args.id c.args.priority c.in-Some.seat.now c.in-Some.ensures.finds) }
 
 pub returns : goal.returns
 returns g c = let t = now-altered (vec_items c.args.self.now.table.rows) c.args.id c.args.priority c.in-Some.seat.now c.in-Some.ensures.finds in done refl t.accepted t

@@ -1,7 +1,7 @@
 use Rattle.std.proofs.Common.{is_some, ap, sym, ◌∙◌, ◌<◌, length, vec_items, refl, arith}
 use Rattle.std.proofs.lemmas.Bool.{true≢false}
 use Rattle.schedule.specs.Ranks.{entered}
-use Rattle.rotation.specs.Answering.{refused, done, kept-turned, room, entered-turned, lent, not_lent}
+use Rattle.rotation.specs.Answering.{refused, done, distinct-turned, room, entered-turned, lent, not_lent}
 use Rattle.rotation.proofs.rotations.calls.RotationPolicy.enter.Goals as goal
 use Rattle.rotation.proofs.rotations.calls.RotationPolicy.enter.Goals.{then-len-ge-LIMIT-via-then-len-ge-LIMIT, then-len-ge-LIMIT-via-else-len-ge-LIMIT+then-is_some}
 
@@ -20,13 +20,13 @@ invariant_of-self g c =
     let order = vec_items c.args.self.now.table.rows in
     let few : length order < 64 = omega (arith, c.len.ensures, c.if-len-ge-LIMIT.false) in
     let none = not_lent order c.args.id c.get.result c.get.ensures (sym c.if-is_some.ensures) in
-    let turned = entered-turned order _ _ c.args.id c.args.priority c.add.result c.args.self.now.kept none few c.add.ensures.answers c.add.ensures.rows in
-    record { kept = kept-turned order _ _ _ (entered c.args.id c.args.priority) c.args.self.now.kept turned c.add.ensures.memory }
+    let turned = entered-turned order _ c.args.id c.args.priority c.add.result none few c.add.ensures.answers c.add.ensures.rows in
+    record { distinct = distinct-turned order _ (entered c.args.id c.args.priority) c.args.self.now.distinct turned }
 
 pub returns : goal.returns
 returns g c =
     let order = vec_items c.args.self.now.table.rows in
     let few : length order < 64 = omega (arith, c.len.ensures, c.if-len-ge-LIMIT.false) in
     let none = not_lent order c.args.id c.get.result c.get.ensures (sym c.if-is_some.ensures) in
-    let turned = entered-turned order _ _ c.args.id c.args.priority c.add.result c.args.self.now.kept none few c.add.ensures.answers c.add.ensures.rows in
-    done (room order _ c.add.result c.args.self.now.kept few c.add.ensures.answers) turned.accepted turned
+    let turned = entered-turned order _ c.args.id c.args.priority c.add.result none few c.add.ensures.answers c.add.ensures.rows in
+    done (room order c.add.result few c.add.ensures.answers) turned.accepted turned

@@ -1,7 +1,7 @@
 use Rattle.std.proofs.Common.{vec_items, refl, sym, ap, is_some, ◌∙◌}
 use Rattle.std.proofs.lemmas.Bool.{true≢false}
 use Rattle.schedule.specs.Ranks.{left}
-use Rattle.rotation.specs.Answering.{refused, done, kept-turned, lent, not_lent}
+use Rattle.rotation.specs.Answering.{refused, done, distinct-turned, lent, not_lent}
 use Rattle.rotation.proofs.rotations.calls.RotationPolicy.leave.Goals as goal
 
 pub returns-then-is_none : goal.returns-then-is_none
@@ -10,10 +10,7 @@ returns-then-is_none g c = refused (λ is. true≢false (sym is ∙ ap is_some (
 pub invariant_of-self : goal.invariant_of-self
 invariant_of-self g c =
     let order = vec_items c.args.self.now.table.rows in
-    record {
-      kept = kept-turned order _ _ _ (left c.args.id) c.args.self.now.kept (record { accepted = lent order c.args.id c.get.result c.get.ensures c.if-is_none.ensures; order = c.remove.ensures.rows })
-          c.remove.ensures.memory;
-    }
+    record { distinct = distinct-turned order _ (left c.args.id) c.args.self.now.distinct (record { accepted = lent order c.args.id c.get.result c.get.ensures c.if-is_none.ensures; order = c.remove.ensures.rows }) }
 
 pub returns : goal.returns
 returns g c =

@@ -1,6 +1,6 @@
-use Rattle.std.proofs.Common.{vec_items, refl, ◌∙◌}
+use Rattle.std.proofs.Common.{◌≤◌, length, vec_items, refl, arith}
 use Rattle.schedule.specs.Ranks.{served}
-use Rattle.rotation.specs.Answering.{kept-turned, served-turned, unserved-turned, not-out}
+use Rattle.rotation.specs.Answering.{distinct-turned, served-turned, unserved-turned, not-out}
 use Rattle.rotation.proofs.rotations.calls.RotationPolicy.served.Goals as goal
 
 pub returns-in_default : goal.returns-in_default
@@ -9,13 +9,15 @@ returns-in_default g c = record { turns = unserved-turned (vec_items c.args.self
 pub invariant_of-self : goal.invariant_of-self
 invariant_of-self g c =
     let order = vec_items c.args.self.now.table.rows in
-    let turned = served-turned order _ _ _ _ c.args.id c.args.octets c.in-Some.field-0.now c.add.result c.args.self.now.kept c.in-Some.ensures c.remove.ensures.rows c.remove.ensures.memory c.add.ensures.answers c.add.ensures.rows in
-    record { kept = kept-turned order _ _ _ (served c.args.id c.args.octets) c.args.self.now.kept turned (c.add.ensures.memory ∙ c.remove.ensures.memory) }
+    let most : length order ≤ 64 = omega (arith, c.args.self.now.table.roomy.0, c.args.self.now.table.rows.ok.0) in
+    let turned = served-turned order _ _ c.args.id c.args.octets c.in-Some.field-0.now c.add.result most c.in-Some.ensures c.remove.ensures.rows c.add.ensures.answers c.add.ensures.rows in
+    record { distinct = distinct-turned order _ (served c.args.id c.args.octets) c.args.self.now.distinct turned }
 
 pub returns : goal.returns
 returns g c =
     let order = vec_items c.args.self.now.table.rows in
+    let most : length order ≤ 64 = omega (arith, c.args.self.now.table.roomy.0, c.args.self.now.table.rows.ok.0) in
     record {
-      turns = served-turned order _ _ _ _ c.args.id c.args.octets c.in-Some.field-0.now c.add.result c.args.self.now.kept c.in-Some.ensures c.remove.ensures.rows c.remove.ensures.memory c.add.ensures.answers c.add.ensures.rows;
+      turns = served-turned order _ _ c.args.id c.args.octets c.in-Some.field-0.now c.add.result most c.in-Some.ensures c.remove.ensures.rows c.add.ensures.answers c.add.ensures.rows;
       stays = λ none. absurd (not-out order c.args.id c.in-Some.field-0.now c.in-Some.ensures none);
     }
