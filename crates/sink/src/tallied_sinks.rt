@@ -19,10 +19,9 @@ pub trait Backing {
     fn limit(&self) -> u32
         ensures { result ≡ limit self.now };
 
-    // Writes a DATA frame from an octet on, where it keeps frames at all.
+    // Writes a DATA frame from an octet on, where it keeps frames at all and the frame ends within the limit.
     fn write(&mut self, at: u32, id: u32, end: bool, payload: &[u8])
-        requires { at + (9 + length payload.now) ≤ limit self.old }
-        ensures writes { wrote self.old at id end payload.now self.new }
+        ensures writes { at + (9 + length payload.now) ≤ limit self.old → wrote self.old at id end payload.now self.new }
         ensures limit { limit self.new ≡ limit self.old };
 }
 
