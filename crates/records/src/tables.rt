@@ -1,5 +1,5 @@
 // A table of at most 64 records, in the order in which they came.
-ghost use Rattle.std.specs.Prelude.{◌≡◌, ℕ, ◌≤◌, min, Bool, true, false, [], ◌∷◌, ◌++◌, map, length, IfOk, if◌then◌else◌, vec_len, vec_capacity, nat_lt};
+ghost use Rattle.std.specs.Prelude.{◌≡◌, ℕ, ◌≤◌, min, Bool, true, false, [], ◌∷◌, ◌++◌, map, length, IfOk, if◌then◌else◌, None, vec_len, vec_capacity, nat_lt};
 ghost use Rattle.std.specs.Borrow.{sem, follows_if};
 ghost use Rattle.std.specs.Vec.{with_item};
 ghost use Rattle.std.specs.Option.{ghost_name_of as name_of};
@@ -62,11 +62,12 @@ impl<R: Record + Drop> Table<R> {
         self.rows.get_mut(i)
     }
 
-    // Adds a record behind the others; false where the table is full.
+    // Adds a record behind the others; false where the table is full, which then is as it was.
     pub fn add(&mut self, row: R) -> bool
         ensures answers { result ≡ nat_lt (length self.old.rows.items) 64 }
         ensures rows { self.new.rows.items ≡ (if result then self.old.rows.items ++ row ∷ [] else self.old.rows.items) }
         ensures memory { vec_capacity self.new.rows ≡ vec_capacity self.old.rows }
+        ensures stays { result ≡ false → self.new ≡ self.old }
     {
         if self.len() >= LIMIT {
             return false;
@@ -75,11 +76,12 @@ impl<R: Record + Drop> Table<R> {
         true
     }
 
-    // Takes out the record with the id; the order of the rest stays.
+    // Takes out the record with the id; the order of the rest stays, and where there is none the table is as it was.
     pub fn remove(&mut self, id: u32) -> Option<R>
         ensures answers { Taken R.Record.key self.old.rows.items id result }
         ensures rows { self.new.rows.items ≡ without R.Record.key id self.old.rows.items }
         ensures memory { vec_capacity self.new.rows ≡ vec_capacity self.old.rows }
+        ensures stays { result ≡ None → self.new ≡ self.old }
     {
         let i = self.place(id)?;
         Some(self.rows.remove(i))

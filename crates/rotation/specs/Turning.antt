@@ -43,7 +43,7 @@ length-to_end xs id None e = refl
 length-to_end xs id (Some x) e = omega (arith, length_push (without id_of id xs) (served_now x), length_without id_of xs id x e)
 
 -- ids stay different
-distinct_push : (xs : List Seat) (x : Seat) → Distinct xs → seat_of xs x.id ≡ None → Distinct (xs ++ x ∷ [])
+pub distinct_push : (xs : List Seat) (x : Seat) → Distinct xs → seat_of xs x.id ≡ None → Distinct (xs ++ x ∷ [])
 distinct_push [] x d h = (refl, tt)
 distinct_push (y ∷ xs) x d h =
     ⊎_elim
@@ -62,7 +62,7 @@ distinct-altering (x ∷ xs) id p d =
     (λ n. let t : nat_eq x.id id ≡ false = ne_eqb x.id id n in rw t (seat-altering xs id p x.id ∙ rw t d.0, distinct-altering xs id p d.1))
     (cases_eq x.id id)
 
-distinct_without : (xs : List Seat) (id : ℕ) → Distinct xs → Distinct (without id_of id xs)
+pub distinct_without : (xs : List Seat) (id : ℕ) → Distinct xs → Distinct (without id_of id xs)
 distinct_without [] id d = tt
 distinct_without (x ∷ xs) id d =
     ⊎_elim

@@ -35,8 +35,7 @@ impl<R: Rule> Policy for Rotation<R> {
     ghost means = { λ s event t turned. turned-means s.table.rows.items t.table.rows.items event s.distinct turned };
 
     fn enter(&mut self, id: u32, priority: Priority) -> bool {
-        // A full table promises its seats alone, and a refusal leaves all of the policy as it was.
-        if self.table.len() >= LIMIT || self.table.get(id).is_some() {
+        if self.table.get(id).is_some() {
             return false;
         }
         self.table.add(Seat {
@@ -55,19 +54,13 @@ impl<R: Rule> Policy for Rotation<R> {
     }
 
     fn leave(&mut self, id: u32) -> bool {
-        // What takes out no seat promises the seats alone, and a refusal leaves all of the policy as it was.
-        if self.table.get(id).is_none() {
-            return false;
-        }
-        self.table.remove(id);
-        true
+        self.table.remove(id).is_some()
     }
 
     fn served(&mut self, id: u32, octets: u32) {
-        let Some(&seat) = self.table.get(id) else {
+        let Some(seat) = self.table.remove(id) else {
             return;
         };
-        self.table.remove(id);
         self.table.add(Seat {
             served: true,
             ..seat

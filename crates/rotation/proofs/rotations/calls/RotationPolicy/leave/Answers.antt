@@ -1,18 +1,25 @@
-use Rattle.std.proofs.Common.{vec_items, refl, sym, ap, is_some, ◌∙◌}
-use Rattle.std.proofs.lemmas.Bool.{true≢false}
+use Rattle.std.proofs.Common.{◌≡◌, ℕ, vec_items, sym, subst, is_some, Some, None, Option, refl}
+use Rattle.schedule.specs.Policies.{Did}
 use Rattle.schedule.specs.Ranks.{left}
-use Rattle.rotation.specs.Answering.{refused, done, distinct-turned, lent, not_lent}
+use Rattle.records.specs.Tables.{Taken, without}
+use Rattle.rotation.specs.declared.rotations.Rotation.{Rotation}
+use Rattle.rotation.specs.declared.seats.Seat.{Seat}
+use Rattle.rotation.specs.Answering.{refused, done, is_in, not_in}
+use Rattle.rotation.specs.Orders.{Distinct, Turned, id_of, ranked}
+use Rattle.rotation.specs.Rotations.{order_in}
+use Rattle.rotation.specs.Turning.{distinct_without}
+use Rattle.rotation.proofs.Sameness.{same-table}
 use Rattle.rotation.proofs.rotations.calls.RotationPolicy.leave.Goals as goal
 
-pub returns-then-is_none : goal.returns-then-is_none
-returns-then-is_none g c = refused (λ is. true≢false (sym is ∙ ap is_some (not_lent _ c.args.id c.get.result c.get.ensures c.if-is_none.ensures))) refl
+-- the seat that was taken out was the id's, and without one all stays
+taken-out : {R : Type 0} (s t : Rotation R) (id : ℕ) (r : Option Seat) → Taken id_of (order_in s) id r → order_in t ≡ without id_of id (order_in s) → (r ≡ None → t ≡ s)
+    → Did (λ u. ranked (order_in u)) (λ u e v. Turned (order_in u) e (order_in v)) (left id) s (is_some r) t
+taken-out s t id None none rows same = refused (not_in (order_in s) id none) (same refl)
+taken-out s t id (Some x) is rows same = let accepted = is_in (order_in s) id x is in done refl accepted (record { accepted = accepted; order = rows })
 
 pub invariant_of-self : goal.invariant_of-self
-invariant_of-self g c =
-    let order = vec_items c.args.self.now.table.rows in
-    record { distinct = distinct-turned order _ (left c.args.id) c.args.self.now.distinct (record { accepted = lent order c.args.id c.get.result c.get.ensures c.if-is_none.ensures; order = c.remove.ensures.rows }) }
+invariant_of-self g c = record { distinct = subst Distinct (sym c.remove.ensures.rows) (distinct_without (vec_items c.args.self.now.table.rows) c.args.id c.args.self.now.distinct) }
 
 pub returns : goal.returns
-returns g c =
-    let accepted = lent (vec_items c.args.self.now.table.rows) c.args.id c.get.result c.get.ensures c.if-is_none.ensures in
-    done refl accepted (record { accepted = accepted; order = c.remove.ensures.rows })
+returns g c = rw c.is_some.ensures
+    (taken-out c.args.self.now _ c.args.id c.remove.result c.remove.ensures.answers c.remove.ensures.rows (λ none. same-table c.args.self.now c.remove.new.self _ (c.remove.ensures.stays none)))
