@@ -21,7 +21,7 @@ base-within Offset i = omega arith
 -- a stream whose account was found is begun
 pub begun-already : (b : ℕ) (rows : List Account) (id : ℕ) (r : Option (Bor Account)) → Found id_of rows id r → is_some r ≡ true → stream_in b rows id ≡ None → ⊥
 begun-already b rows id None f e none = false≢true e
-begun-already b rows id (Some x) f e none = let s : Some (credit_at b x.now) ≡ None = sym (stream-found b rows id x.now f) ∙ none in let z : ◌≡◌ {A = ℕ} 0 1 = cc in omega arith
+begun-already b rows id (Some x) f e none = let s : Some (credit_at b x.now) ≡ None = sym (stream-found b rows id x.now f) ∙ none in cc
 
 -- one whose account was not found has none
 pub not-begun : (rows : List Account) (id : ℕ) (r : Option (Bor Account)) → Found id_of rows id r → is_some r ≡ false → Absent (ids rows) id

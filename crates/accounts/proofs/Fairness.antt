@@ -51,7 +51,7 @@ module _ (b i : ℕ) where
   fairs-push [] x f g h = (g, refl, tt)
   fairs-push (a ∷ rows) x f g h =
       ⊎_elim
-      (λ e. absurd (let s : Some (credit_at b a) ≡ None = rw (eq-eqb a.id x.id e) at h in let z : ◌≡◌ {A = ℕ} 0 1 = cc in omega arith))
+      (λ e. absurd (let s : Some (credit_at b a) ≡ None = rw (eq-eqb a.id x.id e) at h in cc))
       (λ n.
       let e : eqb a.id x.id ≡ false = ne_eqb a.id x.id n in
       let further : stream_in b rows x.id ≡ None = rw e at h in

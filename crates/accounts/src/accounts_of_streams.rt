@@ -1,5 +1,5 @@
 // One stream's account: what is stored of its window, and what it holds.
-ghost use Rattle.std.specs.Prelude.{◌≡◌, ℕ, ◌+◌, ◌<◌, ◌≤◌, true, pos, ◌+ℤ◌, ◌≤ℤ◌, if◌then◌else◌, None, Decides, MatchOption};
+ghost use Rattle.std.specs.Prelude.{◌≡◌, ◌+◌, ◌<◌, ◌≤◌, true, pos, ◌+ℤ◌, ◌≤ℤ◌, if◌then◌else◌, None, Decides, MatchOption};
 ghost use Rattle.credit.specs.Credit.{amount, left, at_least_0};
 ghost use Rattle.accounts.specs.Accounts.{credit_at, raised_by, holding_now, spent_by, InBounds};
 
@@ -67,8 +67,8 @@ impl Account {
         ensures answers { Decides result ((self.old.held ≡ None) × (n ≤ at_least_0 (left (credit_at base self.old)))) }
         ensures leaves { self.new ≡ (if result then holding_now n self.old else self.old) }
     {
-        let left = i64::from(self.balance) + i64::from(base);
-        if self.held.is_some() || i64::from(n) > left.max(0) {
+        let window = i64::from(self.balance) + i64::from(base);
+        if self.held.is_some() || i64::from(n) > window.max(0) {
             return false;
         }
         self.held = Some(n);

@@ -1,5 +1,5 @@
 // What a new initial window makes of every account.
-ghost use Rattle.std.specs.Prelude.{◌≡◌, ℕ, map, Decides};
+ghost use Rattle.std.specs.Prelude.{◌≡◌, map, Decides};
 ghost use Rattle.std.specs.List.{AllByRecursion};
 ghost use Rattle.accounts.specs.Accounts.{Fits, InRange, shifted_by};
 ghost use Rattle.accounts.specs.Storages.{Renewable, renewed_by};

@@ -1,5 +1,5 @@
 // A cap over any gate: no stream has more room than a fixed number.
-ghost use Rattle.std.specs.Prelude.{◌≡◌, ℕ, min};
+ghost use Rattle.std.specs.Prelude.{◌≡◌, min};
 ghost use Rattle.std.proofs.Common.{rules};
 
 use crate::gates::Gate;
@@ -20,6 +20,7 @@ impl<G: Gate> Cap<G> {
     }
 }
 
+// All but what the cap limits is handed on call by call, for which the language has no shorter form.
 impl<G: Gate> Gate for Cap<G> {
     ghost meaning = { λ s. G.Gate.meaning s.below };
 

@@ -1,5 +1,5 @@
 -- What can happen at a moment, and that every answer by the rules makes one of it happen.
-use Rattle.std.proofs.Common.{◌≡◌, ℕ, ◌+◌, ◌%◌, ◌<◌, Bool, true, false, cond, not, eqb, ltb, ◌⊎◌, List, length, drop, Some, Ok, Err, Option, Result, sym, refl, ap, subst, inl, inr, ⊎_elim, arith}
+use Rattle.std.proofs.Common.{◌≡◌, ℕ, ◌+◌, ◌%◌, ◌<◌, Bool, true, false, cond, not, eqb, ltb, ◌⊎◌, List, length, drop, Some, Ok, Err, Option, Result, sym, refl, ap, subst, inl, inr, ⊎_elim}
 use Rattle.wire.specs.Faults.{not_whole, frame_size, protocol}
 use Rattle.wire.specs.declared.headers.Header.{Header}
 use Rattle.wire.specs.declared.settings.Setting.{Setting}
@@ -44,7 +44,7 @@ refuse-err true x f next e = inl (cc)
 refuse-err false x f next e = inr e
 
 ok-err : {X : Type 0} (x : X) (f : Fault) → ◌≡◌ {A = Result X Fault} (Ok x) (Err f) → ⊥
-ok-err x f e = let z : ◌≡◌ {A = ℕ} 0 1 = cc in omega arith
+ok-err x f e = cc
 
 abbrev pub OfCodec : Fault → Type 0
 OfCodec f = (f ≡ not_whole) ⊎ (f ≡ frame_size) ⊎ (f ≡ protocol 5)

@@ -42,7 +42,7 @@ at_both P f g id o u here apart q =
     (cases_eq q id)
 
 pub none-some : {X : Type 0} (o : Option X) (x : X) → o ≡ None → o ≡ Some x → ⊥
-none-some o x a b = let z : ◌≡◌ {A = ℕ} 0 1 = cc in omega arith
+none-some o x a b = cc
 
 pub some_is : {X : Type 0} (o : Option X) (x : X) → o ≡ Some x → is_some o ≡ true
 some_is o x e = rw e refl

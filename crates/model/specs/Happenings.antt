@@ -2,7 +2,7 @@
 use Rattle.std.specs.Prelude.{ℕ, ◌+◌, ◌-◌, Bool, true, false, cond, ◌||◌, List, [], ◌∷◌, Some, None, Ok, Err, Option, Result, ◌==◌, nat_eq}
 use Rattle.std.specs.Option.{option_map}
 use Rattle.std.specs.Map.{update}
-use Rattle.wire.specs.Faults.{number_of}
+use Rattle.wire.specs.Faults.{cause_number}
 use Rattle.wire.specs.Frames.{Told, settings, settings_ack, window_update, reset_stream, priority_update, other, frame_of}
 use Rattle.wire.specs.Settings.{settings_of}
 use Rattle.wire.specs.Values.{value_of}
@@ -114,15 +114,15 @@ frame_does (Ok (other kind id)) = nothing
 
 -- the faults 3, 4 and 5 end the connection
 abbrev pub ends : Fault → Bool
-ends f = number_of f.cause == 3 || (number_of f.cause == 4 || number_of f.cause == 5)
+ends f = cause_number f.cause == 3 || (cause_number f.cause == 4 || cause_number f.cause == 5)
 
 -- the faults 6 and 7 close the stream that they name
 abbrev pub closes : Fault → Bool
-closes f = number_of f.cause == 6 || number_of f.cause == 7
+closes f = cause_number f.cause == 6 || cause_number f.cause == 7
 
 -- what a fault does: it ends the connection, closes the stream that it names, or, as 10 does, has its id count as opened
 abbrev pub fault_does : Fault → Happening
-fault_does f = cond (ends f) ending (cond (closes f) (closing f.stream) (cond (number_of f.cause == 10) (skipping f.stream) nothing))
+fault_does f = cond (ends f) ending (cond (closes f) (closing f.stream) (cond (cause_number f.cause == 10) (skipping f.stream) nothing))
 
 abbrev pub octets_in : Ask → List ℕ
 octets_in (frame o) = o

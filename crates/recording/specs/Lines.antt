@@ -7,7 +7,7 @@ use Rattle.wire.specs.declared.priorities.Priority.{Priority}
 use Rattle.wire.specs.declared.settings.Setting.{Setting}
 use Rattle.wire.specs.Frames.{Told, settings, settings_ack, window_update, reset_stream, priority_update, other, frame_of, behind}
 use Rattle.wire.specs.DataFrames.{data_of}
-use Rattle.wire.specs.Faults.{number_of, code_of, error_number, unreadable_priority}
+use Rattle.wire.specs.Faults.{cause_number, code_of, error_number, unreadable_priority}
 use Rattle.wire.specs.Settings.{settings_of, to_come}
 use Rattle.wire.specs.Urgencies.{urgency_number}
 use Rattle.wire.specs.Values.{value_of}
@@ -81,7 +81,7 @@ said_text (frame kind stream) = fields (codes "frame" ∷ decimal kind ∷ decim
 -- the same of a frame that is refused
 abbrev pub fault_text : Fault → List ℕ
 fault_text e =
-    fields (codes "fault" ∷ decimal (number_of e.cause) ∷ decimal (error_number (code_of e.cause)) ∷ decimal e.stream ∷ decimal e.place ∷ [])
+    fields (codes "fault" ∷ decimal (cause_number e.cause) ∷ decimal (error_number (code_of e.cause)) ∷ decimal e.stream ∷ decimal e.place ∷ [])
 
 -- the same of either
 abbrev pub entry_text : Result Said Fault → List ℕ

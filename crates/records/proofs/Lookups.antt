@@ -27,7 +27,7 @@ module _ {X : Type 0} (key : X → ℕ) where
 
   -- a record that was found has the id
   pub record-named : (xs : List X) (id : ℕ) (x : X) → record_of key xs id ≡ Some x → key x ≡ id
-  record-named [] id x = λ e. absurd (let z : ◌≡◌ {A = ℕ} 0 1 = cc in omega arith)
+  record-named [] id x = λ e. absurd cc
   record-named (y ∷ xs) id x =
       ⊎_elim
       (λ s. rw (eq-eqb (key y) id s) (λ e. let m : y ≡ x = cc in ap key (sym m) ∙ s))
@@ -61,7 +61,7 @@ module _ {X : Type 0} (key : X → ℕ) where
       (cases_eq (key y) id)
 
   pub length_without : (xs : List X) (id : ℕ) (x : X) → record_of key xs id ≡ Some x → length (without key id xs) + 1 ≡ length xs
-  length_without [] id x = λ e. absurd (let z : ◌≡◌ {A = ℕ} 0 1 = cc in omega arith)
+  length_without [] id x = λ e. absurd cc
   length_without (y ∷ xs) id x =
       ⊎_elim
       (λ s. rw (eq-eqb (key y) id s) (λ e. omega arith))

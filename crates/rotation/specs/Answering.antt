@@ -17,7 +17,7 @@ use Rattle.rotation.specs.declared.standings.Standing.{Standing}
 use Rattle.rotation.specs.Orders.{id_of, priority_of, seat_of, ranked, Distinct, new_seat, served_now, to_end, Turned}
 use Rattle.rotation.specs.Choices.{before, standing_of, First}
 use Rattle.rotation.specs.Places.{mapped-some, mapped-none}
-use Rattle.rotation.specs.Turning.{distinct-after}
+use Rattle.rotation.specs.Turning.{distinct-after, few-after}
 
 -- a call that is refused, and one that is accepted
 pub refused : {P : Type 0} {ranks : P → Ranks} {turned : P → Event → P → Type 0} {event : Event} {s t : P} → (Accepts (ranks s) event → ⊥) → t ≡ s → Did ranks turned event s false t
@@ -29,6 +29,10 @@ done e accepted turns = record { answers = (λ z. accepted, λ a. e); turns = λ
 -- an accepted event leaves an order of different ids
 pub distinct-turned : (xs ys : List Seat) (event : Event) → Distinct xs → Turned xs event ys → Distinct ys
 distinct-turned xs ys event d t = subst Distinct (sym t.order) (distinct-after xs event d t.accepted)
+
+-- and at most 64 seats
+pub few-turned : (xs ys : List Seat) (event : Event) → length xs ≤ 64 → Turned xs event ys → length ys ≤ 64
+few-turned xs ys event few t = subst (λ zs. length zs ≤ 64) (sym t.order) (few-after xs event few t.accepted)
 
 -- a table with fewer than 64 seats takes one more
 pub room : (xs : List Seat) (r : Bool) → length xs < 64 → r ≡ nat_lt (length xs) 64 → r ≡ true

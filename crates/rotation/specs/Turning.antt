@@ -1,5 +1,5 @@
 -- What an event leaves of the seats, and of their meaning.
-use Rattle.std.specs.Prelude.{◌≡◌, ℕ, suc, ◌<◌, true, false, cond, List, [], ◌∷◌, ◌++◌, map, length, is_some, Some, None, Option, ◌==◌, nat_eq, slice_index_or, slice_set, refl}
+use Rattle.std.specs.Prelude.{◌≡◌, ℕ, suc, ◌<◌, ◌≤◌, true, false, cond, List, [], ◌∷◌, ◌++◌, map, length, is_some, Some, None, Option, ◌==◌, nat_eq, slice_index_or, slice_set, refl}
 use Rattle.std.proofs.Common.{arith, sym, ◌∙◌, ap, ⊎_elim, eq-eqb, ne_eqb}
 use Rattle.std.proofs.Math.Path.{fun_ext}
 use Rattle.std.specs.Option.{option_map}
@@ -92,6 +92,13 @@ in_some xs id h = go (seat_of xs id) h
     go : (o : Option Seat) → is_some (option_map priority_of o) ≡ true → (x : Seat) × (o ≡ Some x)
     go None k = absurd (false≢true k)
     go (Some x) k = (x, refl)
+
+-- every accepted event leaves at most 64 seats
+pub few-after : (xs : List Seat) (event : Event) → length xs ≤ 64 → Accepts (ranked xs) event → length (order_after xs event) ≤ 64
+few-after xs (entered id p) few a = omega (arith, length_push xs (new_seat id p), a.1)
+few-after xs (altered id p) few a = omega (arith, length-altering xs id p, few)
+few-after xs (left id) few a = let x = in_some xs id a in omega (arith, length_without id_of xs id x.0 x.1, few)
+few-after xs (served id n) few a = omega (arith, length-to_end xs id (seat_of xs id) refl, few)
 
 -- every accepted event leaves an order of different ids
 pub distinct-after : (xs : List Seat) (event : Event) → Distinct xs → Accepts (ranked xs) event → Distinct (order_after xs event)

@@ -67,7 +67,7 @@ impl<R: Rule> Rotation<R> {
         ensures first { First (standing_of R.Rule.stands (order_in self.now)) ids.now result }
     {
         let mut best = None;
-        // The loop keeps the best so far.
+        // A fold carries the best so far no more plainly than this loop.
         for id in ids {
             best = self.better(best, *id);
         }

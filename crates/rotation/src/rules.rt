@@ -46,7 +46,7 @@ impl Rule for InTurn {
             Standing {
                 urgency,
                 group: Group::New,
-                number: seat.id as u64,
+                number: u64::from(seat.id),
             }
         }
     }
@@ -69,7 +69,7 @@ impl Rule for PlainFirst {
         Standing {
             urgency: seat.priority.urgency.number(),
             group: Group::Plain,
-            number: seat.id as u64,
+            number: u64::from(seat.id),
         }
     }
 }

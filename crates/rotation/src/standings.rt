@@ -5,21 +5,24 @@ ghost use Rattle.rotation.specs.Choices.{sooner};
 // The groups within an urgency, the first one first.
 #[derive(Clone, Copy, PartialEq, Eq, PartialOrd, Ord)]
 pub enum Group {
+    // Not incremental, where a rule prefers such.
     Plain,
+    // Not served since it entered.
     New,
+    // Served since it entered.
     Served,
 }
 
 // Where a seat stands: the smaller urgency comes first, then the earlier group, then the smaller number.
 #[derive(Clone, Copy, PartialEq, Eq, PartialOrd, Ord)]
 pub struct Standing {
-    // by its number, since urgencies themselves have no order
+    // The law of a rule is on the number of an urgency.
     pub urgency: u8,
     pub group: Group,
     pub number: u64,
 }
 
-// Whether a standing comes before the best so far, if there is one.
+// Whether a standing comes before the best so far, if there is one; options themselves put none first, and here it comes last.
 pub(crate) fn is_sooner(standing: Option<Standing>, best: Option<Standing>) -> bool
     ensures { result ≡ sooner standing best }
 {

@@ -1,6 +1,6 @@
 -- What a frame leaves, and how a fault ends the connection.
 use Rattle.std.proofs.Common.{◌≡◌, ℕ, Bool, true, false, cond, eqb, List, Ok, Err, Result, sym, refl, ap, ◌∙◌, subst, ⊎_elim}
-use Rattle.wire.specs.Faults.{number_of}
+use Rattle.wire.specs.Faults.{cause_number}
 use Rattle.wire.specs.Frames.{Told, settings, settings_ack, window_update, reset_stream, priority_update, other, frame_of}
 use Rattle.wire.specs.declared.faults.Fault.{Fault}
 use Rattle.wire.specs.declared.settings.Setting.{Setting}
@@ -68,9 +68,9 @@ ended_is octets (Ok (Granted g)) = refl
 ended_is octets (Ok (Sent grant id n end)) = refl
 ended_is octets (Ok (Back grant id)) = refl
 ended_is octets (Err f) =
-    elim (ends f) as (λ b. (cond {A = Happening} b ending (cond (closes f) (closing f.stream) (cond (eqb (number_of f.cause) 10) (skipping f.stream) nothing))).ended ≡ b) [
+    elim (ends f) as (λ b. (cond {A = Happening} b ending (cond (closes f) (closing f.stream) (cond (eqb (cause_number f.cause) 10) (skipping f.stream) nothing))).ended ≡ b) [
       | true ↦ refl
-      | false ↦ elim (closes f) as (λ b. (cond {A = Happening} b (closing f.stream) (cond (eqb (number_of f.cause) 10) (skipping f.stream) nothing)).ended ≡ false) [ true ↦ refl | false ↦ elim (eqb (number_of f.cause) 10) as (λ b. (cond {A = Happening} b (skipping f.stream) nothing).ended ≡ false) [ true ↦ refl | false ↦ refl ] ]
+      | false ↦ elim (closes f) as (λ b. (cond {A = Happening} b (closing f.stream) (cond (eqb (cause_number f.cause) 10) (skipping f.stream) nothing)).ended ≡ false) [ true ↦ refl | false ↦ elim (eqb (cause_number f.cause) 10) as (λ b. (cond {A = Happening} b (skipping f.stream) nothing).ended ≡ false) [ true ↦ refl | false ↦ refl ] ]
     ]
 
 -- a state but for the connection's life

@@ -1,6 +1,8 @@
 -- A new initial window, stream by stream and pair by pair.
-use Rattle.std.proofs.Common.{◌≡◌, ℕ, suc, ◌<◌, ◌≤◌, Bool, true, false, cond, eqb, List, [], ◌∷◌, map, length, get_or, ℤ, pos, ◌+ℤ◌, ◌-ℤ◌, ◌≤ℤ◌, is_some, IfSome, Some, None, Ok, Err, Decides, Option, sym, refl, ap, ◌∙◌, subst, ⊎_elim, arith, eq-eqb, ne_eqb}
-use Rattle.std.specs.List.{AllByRecursion}
+use Rattle.std.proofs.Common.{◌≡◌, MatchBool, ℕ, suc, ◌<◌, ◌≤◌, Bool, true, false, cond, eqb, List, [], ◌∷◌, map, length, get_or, ℤ, pos, ◌+ℤ◌, ◌-ℤ◌, ◌≤ℤ◌, is_some, IfSome, Some, None, Ok, Err, Decides, Option, sym, refl, ap, ◌∙◌, subst, ⊎_elim, arith, eq-eqb, ne_eqb}
+use Rattle.std.specs.List.{AllByRecursion, AllWithin, HoldsAt}
+use Rattle.std.proofs.lemmas.Iterator.Search.{true_from_All}
+use Rattle.std.proofs.lemmas.List.{get_or-map}
 use Rattle.std.proofs.lemmas.Bool.{cases_eq, false≢true}
 use Rattle.std.proofs.lemmas.Bool.Decides.{nat_tests}
 use Rattle.credit.specs.Credit.{Credit, window_of}
@@ -44,6 +46,24 @@ all_fit s room xs v streams tied most each = (
   λ id. fits-at (s.gate.stream id) (λ c. (shifted s.gate.initial v c).window ≤ℤ pos 2147483647) (λ c e.
       let r = row_at xs id (ap (λ f. is_some (f id)) (sym streams) ∙ paired-open (s.streams id) (s.gate.stream id) c (tied.paired id) e) in
       subst (λ q. IfSome (s.gate.stream q) (λ d. (shifted s.gate.initial v d).window ≤ℤ pos 2147483647)) r.2 (each r.0 r.1)),
+)
+
+-- a row's stream fits under a new initial window
+abbrev pub FitsRow : State → ℕ → ℕ → Row → Type 0
+FitsRow s before v x = IfSome (s.gate.stream x.id) (λ c. (shifted before v c).window ≤ℤ pos 2147483647)
+
+-- a new initial window is accepted exactly where each row's stream fits
+pub all-decide : (s : State) (room : ℕ → ℕ) (xs : List Row) (before v : ℕ) (r : Bool) → s.streams ≡ streams_in xs → Tied s → v ≤ 2147483647 → before ≡ s.gate.initial
+    → MatchBool r (AllWithin (FitsRow s before v) xs 0 (length xs)) ((k : ℕ) × (k < length xs) × HoldsAt (λ x. FitsRow s before v x → ⊥) xs k) → Decides r (Accepts s.gate room (initial v))
+all-decide s room xs before v true streams tied most same m =
+    let row : Row = record { id = 0; queue = 0; ended = false; grant = None } in (
+      (λ _. all_fit s room xs v streams tied most (λ j l. subst (λ n. IfSome (s.gate.stream (get_or (map id_of xs) j 0)) (λ c. (shifted n v c).window ≤ℤ pos 2147483647)) same
+          (subst (λ q. IfSome (s.gate.stream q) (λ c. (shifted before v c).window ≤ℤ pos 2147483647)) (sym (get_or-map id_of xs j row 0 l)) (m j row (omega arith) l)))),
+      λ _. refl,
+    )
+all-decide s room xs before v false streams tied most same m = (
+  (λ e. absurd (false≢true e)),
+  λ a. true_from_All (FitsRow s before v) (λ x. FitsRow s before v x → ⊥) false xs (λ x p n. n p) m (λ k d l. subst (λ n. IfSome (s.gate.stream (get_or xs k d).id) (λ c. (shifted n v c).window ≤ℤ pos 2147483647)) (sym same) (a.1 (get_or xs k d).id)),
 )
 
 -- what is told of some pairs is told of more: that they are refused, or that they pass

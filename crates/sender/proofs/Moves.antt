@@ -29,7 +29,7 @@ fresh = record { queue = 0; ended = false; grant = None }
 
 -- what a mapped option came from
 pub mapped-some : {X Y : Type 0} (f : X → Y) (o : Option X) (y : Y) → option_map f o ≡ Some y → (x : X) × (o ≡ Some x) × (f x ≡ y)
-mapped-some f None y e = absurd (let z : ◌≡◌ {A = ℕ} 0 1 = cc in omega arith)
+mapped-some f None y e = absurd cc
 mapped-some f (Some x) y e = (x, refl, cc)
 
 -- states with the same parts

@@ -1,5 +1,5 @@
 -- What WINDOW_UPDATE, RST_STREAM and PRIORITY_UPDATE find.
-use Rattle.std.proofs.Common.{◌≡◌, ℕ, true, false, eqb, List, map, pos, ◌≤ℤ◌, ◌<ℤ◌, is_some, Bor, Some, None, Ok, Err, Option, Result, refl, ap, ◌∙◌, arith, ne_eqb, MatchOption}
+use Rattle.std.proofs.Common.{◌≡◌, ℕ, true, false, eqb, List, map, pos, ◌≤ℤ◌, ◌<ℤ◌, is_some, Bor, Some, None, Ok, Err, Option, Result, refl, ap, ◌∙◌, ne_eqb, MatchOption}
 use Rattle.std.specs.Option.{option_map, ok_or}
 use Rattle.std.proofs.lemmas.Int.{by_lt_z}
 use Rattle.records.specs.Records.{Absent}
@@ -43,14 +43,14 @@ overflows s room id v tied ne is never =
     over (s.gate.stream id) c.0 c.1 not-raised
   where
     over : (o : Option Credit) (c : Credit) → o ≡ Some c → (MatchOption o ⊥ (λ d. (raised v d).window ≤ℤ pos MAX) → ⊥) → MatchOption o ⊥ (λ d. pos MAX <ℤ (raised v d).window)
-    over None c e h = absurd (let z : ◌≡◌ {A = ℕ} 0 1 = cc in omega arith)
+    over None c e h = absurd cc
     over (Some d) c e h = by_lt_z (pos MAX) (raised v d).window (λ l. l) (λ l. absurd (h l))
 
 -- what a value that is there, and one that is not, is as a result
 pub ok_or-err : {X E : Type 0} (o : Option X) (d f : E) → ◌≡◌ {A = Result X E} (Err f) (ok_or o d) → (o ≡ None) × (f ≡ d)
 ok_or-err None d f e = (refl, cc)
-ok_or-err (Some x) d f e = absurd (let z : ◌≡◌ {A = ℕ} 0 1 = cc in omega arith)
+ok_or-err (Some x) d f e = absurd cc
 
 pub ok_or-ok : {X E : Type 0} (o : Option X) (d : E) (x : X) → ◌≡◌ {A = Result X E} (Ok x) (ok_or o d) → o ≡ Some x
-ok_or-ok None d x e = absurd (let z : ◌≡◌ {A = ℕ} 0 1 = cc in omega arith)
+ok_or-ok None d x e = absurd cc
 ok_or-ok (Some y) d x e = cc

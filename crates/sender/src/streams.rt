@@ -1,5 +1,4 @@
 // The record of one open stream.
-ghost use Rattle.std.specs.Prelude.{ℕ};
 ghost use Rattle.sender.specs.Answers.{Offers};
 
 use model::Done;

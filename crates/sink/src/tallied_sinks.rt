@@ -19,7 +19,7 @@ pub trait Backing {
     fn limit(&self) -> u32
         ensures { result ≡ limit self.now };
 
-    // Writes a DATA frame from an octet on, where it keeps frames at all and the frame ends within the limit.
+    // Writes a DATA frame from an octet on, where it keeps frames at all; of a frame that ends behind the limit nothing is promised but the limit.
     fn write(&mut self, at: u32, id: u32, end: bool, payload: &[u8])
         ensures writes { at + (9 + length payload.now) ≤ limit self.old → wrote self.old at id end payload.now self.new }
         ensures limit { limit self.new ≡ limit self.old };

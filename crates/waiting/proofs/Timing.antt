@@ -1,5 +1,5 @@
 -- An order after a history: the seats that were served are so marked, and stand in the order of their times.
-use Rattle.std.proofs.Common.{◌≡◌, ℕ, ◌<◌, ◌⊎◌, List, [], ◌∷◌, ◌++◌, length, get_or, is_some, All, AllPairs, ◌≢◌, Some, None, Option, sym, refl, ap, ◌∙◌, subst, inl, inr, ⊎_elim, arith, eq-eqb, ne_eqb}
+use Rattle.std.proofs.Common.{◌≤◌, ◌≡◌, ℕ, ◌<◌, ◌⊎◌, List, [], ◌∷◌, ◌++◌, length, get_or, is_some, All, AllPairs, ◌≢◌, Some, None, Option, sym, refl, ap, ◌∙◌, subst, inl, inr, ⊎_elim, arith, eq-eqb, ne_eqb}
 use Rattle.std.proofs.lemmas.Bool.{cases_eq}
 use Rattle.std.proofs.lemmas.List.Elements.{All-push}
 use Rattle.std.proofs.lemmas.List.Quantifiers.{all_pairs_push, all_pairs_remove}
@@ -10,7 +10,7 @@ use Rattle.schedule.specs.Ranks.{Event, Accepts, after, entered, altered, left, 
 use Rattle.rotation.specs.declared.seats.Seat.{Seat}
 use Rattle.rotation.specs.Orders.{id_of, seat_of, ranked, Distinct, new_seat, served_now, altering, to_end, order_after}
 use Rattle.rotation.specs.Places.{mapped-none}
-use Rattle.rotation.specs.Turning.{gone, in_some, length-altering, distinct-after, ranked-after}
+use Rattle.rotation.specs.Turning.{gone, in_some, length-altering, distinct-after, few-after, ranked-after}
 use Rattle.waiting.specs.Histories.{ranks_after, Accepted, last_served, Earlier}
 use Rattle.waiting.specs.Waits.{order_of}
 use Rattle.waiting.proofs.Seats.{seat-there, all_others, all_remove, altering-same}
@@ -121,17 +121,19 @@ timely-after history (served id octets) xs d a t = timely-end history id octets 
 
 -- the order after a history of accepted events
 pub record Reached (history : List Event) : Type 0 where
+  pub few : length (order_of history) ≤ 64
   pub distinct : Distinct (order_of history)
   pub means : ranked (order_of history) ≡ ranks_after history
   pub timely : Timely (last_served history) (order_of history)
 
 pub reached : (history : List Event) → Accepted history → Reached history
-reached [] a = record { distinct = tt; means = refl; timely = record { marked = λ k d h. absurd (omega arith); rising = λ i j d l h. absurd (omega arith) } }
+reached [] a = record { few = omega arith; distinct = tt; means = refl; timely = record { marked = λ k d h. absurd (omega arith); rising = λ i j d l h. absurd (omega arith) } }
 reached (event ∷ history) a =
     let r = reached history a.1 in
     let xs = order_of history in
     let accepts : Accepts (ranked xs) event = subst (λ m. Accepts m event) (sym r.means) a.0 in
     record {
+      few = few-after xs event r.few accepts;
       distinct = distinct-after xs event r.distinct accepts;
       means = ranked-after xs event r.distinct accepts ∙ ap (λ m. after m event) r.means;
       timely = timely-after history event xs r.distinct accepts r.timely;

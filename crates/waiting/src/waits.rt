@@ -12,7 +12,7 @@ ghost use Rattle.waiting.specs.Going.{turn-goes, plain-goes};
 use rotation::rules::{InTurn, PlainFirst};
 use rotation::{Ordered, Rotation, Rule, Turns};
 
-// A rule that a history of calls tells, too.
+// A rule whose order can also be told from the history of calls.
 pub trait Waits: Rule {
     // whether an id with its priority goes before another of the same urgency, after a history
     ghost ahead: { List Event → ℕ → Priority → ℕ → Priority → Type 0 };

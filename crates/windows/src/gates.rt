@@ -1,5 +1,5 @@
 // The bottom gates: a stream's window is stored as it stands, or as its difference from the initial window.
-ghost use Rattle.std.specs.Prelude.{◌≡◌, ℕ, IfOk};
+ghost use Rattle.std.specs.Prelude.{◌≡◌, IfOk};
 ghost use Rattle.accounts.specs.Books.{meaning_of};
 ghost use Rattle.credit.specs.Calls.{after};
 ghost use Rattle.credit.specs.Credit.{fresh, most_room};
@@ -70,6 +70,7 @@ impl<L: Layout> Windows<L> {
     }
 }
 
+// Each call is handed on to the books, for which the language has no shorter form.
 impl<L: Layout> Gate for Windows<L> {
     ghost meaning = { λ g. meaning_of g.books };
 

@@ -6,25 +6,25 @@ use Rattle.wire.specs.declared.faults.ErrorCode.{ErrorCode}
 use Rattle.wire.specs.declared.faults.ErrorCode.TheVariants.{NoError, ProtocolError, FlowControlError, FrameSizeError}
 use Rattle.wire.specs.declared.faults.Fault.{Fault}
 
-abbrev pub number_of : Cause → ℕ
-number_of Ended = 1
-number_of NotWhole = 2
-number_of FrameSize = 3
-number_of Protocol = 4
-number_of FlowControl = 5
-number_of NoIncrement = 6
-number_of WindowOverflow = 7
-number_of UnreadablePriority = 8
-number_of BadId = 9
-number_of Full = 10
-number_of NotOpen = 11
-number_of EndOffered = 12
-number_of QueueOverflow = 13
-number_of NoneReady = 14
-number_of NotGranted = 15
-number_of TooLong = 16
-number_of NoSpace = 17
-number_of GrantsUsedUp = 18
+abbrev pub cause_number : Cause → ℕ
+cause_number Ended = 1
+cause_number NotWhole = 2
+cause_number FrameSize = 3
+cause_number Protocol = 4
+cause_number FlowControl = 5
+cause_number NoIncrement = 6
+cause_number WindowOverflow = 7
+cause_number UnreadablePriority = 8
+cause_number BadId = 9
+cause_number Full = 10
+cause_number NotOpen = 11
+cause_number EndOffered = 12
+cause_number QueueOverflow = 13
+cause_number NoneReady = 14
+cause_number NotGranted = 15
+cause_number TooLong = 16
+cause_number NoSpace = 17
+cause_number GrantsUsedUp = 18
 
 -- the error code of what breaks the RFC's rules; any other refusal has none
 abbrev pub code_of : Cause → ErrorCode

@@ -1,6 +1,6 @@
 // Faults: what refuses a frame or a call, carried up by `?`.
 ghost use Rattle.std.specs.Prelude.{◌≡◌};
-ghost use Rattle.wire.specs.Faults.{number_of, code_of, error_number, fault, not_whole, frame_size, protocol, unreadable_priority};
+ghost use Rattle.wire.specs.Faults.{cause_number, code_of, error_number, fault, not_whole, frame_size, protocol, unreadable_priority};
 
 // What is refused; each cause has a number.
 #[derive(Clone, Copy, PartialEq, Eq, Debug)]
@@ -46,7 +46,7 @@ pub enum Cause {
 impl Cause {
     // The cause's number, from 1 to 18.
     pub fn number(self) -> u8
-        ensures { result ≡ number_of self }
+        ensures { result ≡ cause_number self }
     {
         self as u8
     }

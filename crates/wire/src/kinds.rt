@@ -30,6 +30,7 @@ impl Kind {
     }
 }
 
+// Numbered enums read their numbers alike, each with its own table, since no macro of ours may write the impl.
 impl TryFrom<u8> for Kind {
     type Error = UnknownKind;
 

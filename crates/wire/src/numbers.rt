@@ -10,7 +10,7 @@ pub(crate) fn number(octets: &[u8]) -> u32
 {
     let mut n: u32 = 0;
     for octet in octets {
-        n = n * 256 + *octet as u32;
+        n = n * 256 + u32::from(*octet);
     }
     n
 }

@@ -1,5 +1,5 @@
 // What the books tell.
-ghost use Rattle.std.specs.Prelude.{◌≡◌, ℕ, IfOk};
+ghost use Rattle.std.specs.Prelude.{◌≡◌, IfOk};
 ghost use Rattle.credit.specs.Credit.{fresh, most_room, window_of, held_of};
 ghost use Rattle.accounts.specs.Books.{meaning_of};
 

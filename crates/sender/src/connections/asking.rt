@@ -1,5 +1,5 @@
 // What a connection asks itself before it moves.
-ghost use Rattle.std.specs.Prelude.{◌≡◌, ℕ, true, false, Decides};
+ghost use Rattle.std.specs.Prelude.{Decides};
 ghost use Rattle.sink.specs.Meaning.{Meaning};
 ghost use Rattle.model.specs.Rules.{Full};
 ghost use Rattle.sender.specs.Connections.{state_of};

@@ -1,5 +1,5 @@
 // A stream begins, and a stream ends: in the gate, in the policy and in the table.
-ghost use Rattle.std.specs.Prelude.{◌≡◌, ℕ, ◌<◌};
+ghost use Rattle.std.specs.Prelude.{◌≡◌, ◌<◌};
 ghost use Rattle.sink.specs.Meaning.{Meaning};
 ghost use Rattle.model.specs.States.{Tied};
 ghost use Rattle.model.specs.Rules.{Full, IsOpen};

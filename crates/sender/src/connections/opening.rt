@@ -1,5 +1,5 @@
 // Streams are opened, and octets are offered.
-ghost use Rattle.std.specs.Prelude.{◌≡◌, ℕ};
+ghost use Rattle.std.specs.Prelude.{◌≡◌};
 ghost use Rattle.sink.specs.Meaning.{Meaning};
 ghost use Rattle.wire.specs.Values.{value_of};
 ghost use Rattle.model.specs.Calls.{opening, offer};
@@ -24,6 +24,7 @@ fn first_priority(value: &[u8]) -> Priority
 }
 
 impl<G: Gate, P: Policy> Connection<G, P> {
+    // Opens a stream by the rules; what histories make of it is the public call's promise.
     fn opened(&mut self, id: u32, value: &[u8]) -> Result<Done, Fault>
         ensures { (k : Meaning) → Steps (moment_of G.Gate P.Policy self.old k) (opening id value.now) result (moment_of G.Gate P.Policy self.new k) }
     {
@@ -45,6 +46,7 @@ impl<G: Gate, P: Policy> Connection<G, P> {
         self.opened(id, value)
     }
 
+    // Queues octets by the rules; what histories make of it is the public call's promise.
     fn offered(&mut self, id: u32, octets: u32, end: bool) -> Result<Done, Fault>
         ensures { (k : Meaning) → Steps (moment_of G.Gate P.Policy self.old k) (offer id octets end) result (moment_of G.Gate P.Policy self.new k) }
     {

@@ -1,5 +1,5 @@
 // Readings, which alter nothing.
-ghost use Rattle.std.specs.Prelude.{◌≡◌, ℕ};
+ghost use Rattle.std.specs.Prelude.{◌≡◌};
 ghost use Rattle.sender.specs.Readings.{stream_read, connection_read};
 
 use crate::connections::Connection;

@@ -1,5 +1,5 @@
 // The peer's frames.
-ghost use Rattle.std.specs.Prelude.{◌≡◌, ℕ};
+ghost use Rattle.std.specs.Prelude.{◌≡◌};
 ghost use Rattle.sink.specs.Meaning.{Meaning};
 ghost use Rattle.wire.specs.Frames.{told_frame};
 ghost use Rattle.model.specs.Calls.{frame, type_of, stream_of};
@@ -83,6 +83,7 @@ impl<G: Gate, P: Policy> Connection<G, P> {
         })
     }
 
+    // Takes a frame by the rules; what histories make of it is the public call's promise.
     fn framed(&mut self, octets: &[u8]) -> Result<Done, Fault>
         ensures { (k : Meaning) → Steps (moment_of G.Gate P.Policy self.old k) (frame octets.now) result (moment_of G.Gate P.Policy self.new k) }
     {

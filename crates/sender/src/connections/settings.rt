@@ -1,15 +1,14 @@
 // SETTINGS: every pair is tested before any applies.
-ghost use Rattle.std.specs.Prelude.{◌≡◌, ℕ, ◌<◌, pos, ◌+ℤ◌, ◌-ℤ◌, ◌≤ℤ◌, IfSome, if◌then◌else◌, Some, Decides, nat_eq};
+ghost use Rattle.std.specs.Prelude.{◌≡◌, ◌<◌, pos, ◌+ℤ◌, ◌-ℤ◌, ◌≤ℤ◌, IfSome, if◌then◌else◌, Some, Decides, nat_eq};
 ghost use Rattle.sink.specs.Meaning.{Meaning};
 ghost use Rattle.credit.specs.Calls.{Accepts, initial, shifted};
 ghost use Rattle.wire.specs.Frames.{settings};
 ghost use Rattle.wire.specs.Parameters.{identifier_of};
 ghost use Rattle.wire.specs.Settings.{to_come};
 ghost use Rattle.model.specs.Happenings.{after, renewing, last_of};
-ghost use Rattle.model.specs.Laws.{Meant};
 ghost use Rattle.model.specs.States.{Tied};
 ghost use Rattle.sender.specs.Answers.{Handles, TestsPair, TestsPairs};
-ghost use Rattle.sender.specs.Connections.{moment_of, state_of, moment_of};
+ghost use Rattle.sender.specs.Connections.{moment_of, state_of};
 
 use crate::connections::Connection;
 use credit::Gate;
@@ -39,17 +38,11 @@ fn last_value(pairs: Pairs, setting: Parameter) -> Option<u32>
     latest
 }
 
-// Whether a window, if there is one, does not pass the maximum when it moves by what a new initial window differs from the one before.
-fn window_fits(window: Option<i32>, before: u32, v: u32) -> bool
-    ensures { Decides result (IfSome window (λ w. (w +ℤ (pos v -ℤ pos before)) ≤ℤ pos 2147483647)) }
+// Whether a window does not pass the maximum when it moves by what a new initial window differs from the one before.
+fn window_fits(window: i32, before: u32, v: u32) -> bool
+    ensures { Decides result ((window +ℤ (pos v -ℤ pos before)) ≤ℤ pos 2147483647) }
 {
-    let Some(w) = window else {
-        return true;
-    };
-    if w as i64 + v as i64 > 2_147_483_647 + before as i64 {
-        return false;
-    }
-    true
+    i64::from(window) + i64::from(v) <= 2_147_483_647 + i64::from(before)
 }
 
 impl<G: Gate, P: Policy> Connection<G, P> {
@@ -57,7 +50,9 @@ impl<G: Gate, P: Policy> Connection<G, P> {
     fn stream_fits(&self, id: u32, before: u32, v: u32) -> bool
         ensures { Decides result (IfSome ((G.Gate.meaning self.now.gate).stream id) (λ c. (shifted before v c).window ≤ℤ pos 2147483647)) }
     {
-        window_fits(self.gate.window(id), before, v)
+        self.gate
+            .window(id)
+            .is_none_or(|window| window_fits(window, before, v))
     }
 
     // Whether neither an initial window nor a stream's window under it passes the maximum.
@@ -68,13 +63,10 @@ impl<G: Gate, P: Policy> Connection<G, P> {
             return false;
         }
         let before = self.gate.initial_window();
-        let rows = self.streams.rows.as_slice();
-        for stream in rows {
-            if !self.stream_fits(stream.id, before, v) {
-                return false;
-            }
-        }
-        true
+        self.streams
+            .rows
+            .iter()
+            .all(|stream| self.stream_fits(stream.id, before, v))
     }
 
     fn test_pair(&self, pair: Setting) -> Result<(), Fault>

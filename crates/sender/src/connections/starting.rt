@@ -1,5 +1,5 @@
 // A new connection.
-ghost use Rattle.std.specs.Prelude.{◌≡◌, ℕ, IfOk};
+ghost use Rattle.std.specs.Prelude.{◌≡◌, IfOk};
 ghost use Rattle.sink.specs.Meaning.{Meaning};
 ghost use Rattle.sender.specs.Connections.{moment_of};
 ghost use Rattle.model.specs.Laws.{Begins};

@@ -1,5 +1,4 @@
 // WINDOW_UPDATE, RST_STREAM and PRIORITY_UPDATE.
-ghost use Rattle.std.specs.Prelude.{◌≡◌, ℕ};
 ghost use Rattle.sink.specs.Meaning.{Meaning};
 ghost use Rattle.wire.specs.Frames.{window_update, reset_stream, priority_update};
 ghost use Rattle.model.specs.Rules.{IsOpen};

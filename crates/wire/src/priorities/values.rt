@@ -60,7 +60,7 @@ fn decimal(digits: &[u8]) -> u64
 {
     let mut number: u64 = 0;
     for digit in digits {
-        number = number * 10 + digit.saturating_sub(b'0') as u64;
+        number = number * 10 + u64::from(digit.saturating_sub(b'0'));
     }
     number
 }
