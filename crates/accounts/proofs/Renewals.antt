@@ -1,5 +1,5 @@
 -- What a new initial window makes of the books.
-use Rattle.std.proofs.Common.{◌≡◌, ℕ, ◌+◌, ◌<◌, ◌≤◌, Bool, true, false, MatchBool, Decides, List, [], ◌∷◌, ◌++◌, map, length, take, drop, pos, ◌+ℤ◌, ◌-ℤ◌, ◌≤ℤ◌, is_some, IfSome, Some, None, Option, sym, refl, ap, ◌∙◌, subst, ⊎_elim, map-id, arith, eq-eqb, ne_eqb}
+use Rattle.std.proofs.Common.{◌≡◌, ℕ, ◌+◌, ◌<◌, ◌≤◌, Bool, true, false, MatchBool, Decides, List, [], ◌∷◌, map, length, pos, ◌+ℤ◌, ◌-ℤ◌, ◌≤ℤ◌, is_some, IfSome, Some, None, Option, sym, refl, ap, ◌∙◌, subst, ⊎_elim, map-id, arith, eq-eqb, ne_eqb}
 use mathlib.Core.Path.{fun_ext}
 use Rattle.std.specs.Option.{option_map}
 use Rattle.std.specs.List.{AllByRecursion, AllWithin, HoldsAt}
@@ -7,7 +7,7 @@ use Rattle.std.proofs.lemmas.Iterator.Search.{true_from_All}
 use Rattle.std.proofs.lemmas.List.Elements.{All-from_recursion, recursion_from_All}
 use Rattle.std.proofs.lemmas.Bool.{cases_eq, false≢true}
 use Rattle.std.proofs.lemmas.Int.{ints}
-use Rattle.std.proofs.lemmas.List.{length-map, take_at}
+use Rattle.std.proofs.lemmas.List.{length-map}
 use Rattle.credit.specs.Credit.{Credit, MAX, amount}
 use Rattle.credit.specs.Calls.{shifted, after, initial}
 use Rattle.accounts.specs.Accounts.{credit_at, shifted_by, stream_in, held_in, Fair, Fairs, meant, Fits, InRange}
@@ -137,7 +137,3 @@ all-fit-from Offset i v p rows above fair h = streams-fit i v i v p (λ a. a) ab
 pub renewable : (st : Storage) (i v p : ℕ) (rows : List Account) → p + base_of st i ≡ i → Fairs (base_of st i) i rows → AllByRecursion (Fits p v) rows → Renewable st p v rows
 renewable Direct i v p rows above fair all = in-range i v p above rows fair all
 renewable Offset i v p rows above fair all = tt
-
--- a slice that is as long as the Vec takes its place whole
-pub in_place : (n : ℕ) (ws xs : List Account) → length ws ≡ n → take n (ws ++ drop (length ws) xs) ≡ ws
-in_place n ws xs h = take_at ws (drop (length ws) xs) n h

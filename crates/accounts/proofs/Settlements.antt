@@ -2,6 +2,7 @@
 use Rattle.std.proofs.Common.{◌≡◌, ℕ, ◌+◌, ◌-◌, ◌<◌, ◌≤◌, Bool, true, false, cond, ltb, List, [], ◌∷◌, ◌++◌, length, take, drop, set, pos, ◌+ℤ◌, ◌≤ℤ◌, is_some, None, vec_items, Decides, sym, refl, ap, ◌∙◌, subst, arith, w32, to_z, MatchOption}
 use Rattle.std.specs.List.{AllByRecursion}
 use Rattle.std.proofs.lemmas.Int.{ints, to_z_pos}
+use Rattle.std.proofs.lemmas.List.{take_at}
 use Rattle.std.proofs.lemmas.Bool.{false≢true}
 use Rattle.records.specs.Records.{Absent, seek}
 use Rattle.records.specs.Tables.{Is, without}
@@ -17,7 +18,7 @@ use Rattle.accounts.proofs.Balances.{within_held}
 use Rattle.accounts.proofs.Beginnings.{base-within, added}
 use Rattle.accounts.proofs.Changes.{unchanged, held-changed, raise-answers, raise-leaves, raise-fair, raise-held, hold-answers, hold-leaves, hold-fair, hold-held, spend-answers, spend-leaves, spend-fair, spend-held, finish-answers, finish-leaves, finish-fair, finish-held}
 use Rattle.accounts.proofs.Fairness.{fairs-from}
-use Rattle.accounts.proofs.Renewals.{Renewed, renewed, renewable, all-fit-from, in_place}
+use Rattle.accounts.proofs.Renewals.{Renewed, renewed, renewable, all-fit-from}
 use Rattle.accounts.proofs.Streams.{id_of, ids, stream-absent}
 
 -- the parts of books that a proof speaks of
@@ -153,7 +154,7 @@ pub renews : (s : Books) (v k : ℕ) (ws : List Account) → k ≡ base s → v 
     → Renewed s.storage s.initial v s.connection s.held (rows_of s) (take s.table.rows.len (ws ++ drop (length ws) (rows_of s)))
 renews s v k ws at m all e =
     let r = renewed s.storage s.initial v s.connection s.held (s.initial - k) (rows_of s) ws (above-base s k at) m (fair_of s) all e in
-    let same : take s.table.rows.len (ws ++ drop (length ws) (rows_of s)) ≡ ws = in_place s.table.rows.len ws (rows_of s) (r.as_many ∙ sym s.table.rows.ok.0) in
+    let same : take s.table.rows.len (ws ++ drop (length ws) (rows_of s)) ≡ ws = take_at ws (drop (length ws) (rows_of s)) s.table.rows.len (r.as_many ∙ sym s.table.rows.ok.0) in
     subst (Renewed s.storage s.initial v s.connection s.held (rows_of s)) (sym same) r
 
 pub may-renew : (s : Books) (v k : ℕ) → k ≡ base s → AllByRecursion (Fits (s.initial - k) v) (rows_of s) → Renewable s.storage (s.initial - k) v (rows_of s)

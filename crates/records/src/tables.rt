@@ -1,5 +1,5 @@
 // A table of at most 64 records, in the order in which they came.
-ghost use Rattle.std.specs.Prelude.{◌≡◌, ◌≤◌, true, false, [], ◌∷◌, ◌++◌, map, length, IfOk, if◌then◌else◌, None, vec_len, vec_capacity, nat_lt};
+ghost use Rattle.std.specs.Prelude.{◌≡◌, ◌≤◌, false, [], ◌∷◌, ◌++◌, map, length, IfOk, if◌then◌else◌, None, vec_len, vec_capacity, nat_lt};
 ghost use Rattle.std.specs.Borrow.{sem, follows_if};
 ghost use Rattle.std.specs.Option.{ghost_name_of as name_of};
 ghost use Rattle.records.specs.Records.{Finds, seek};
