@@ -6,7 +6,7 @@ use std::process::Abort;
 use std::test::Fail;
 use wire::{Priority, Urgency};
 
-// The calls of a policy, and none.
+// The calls of a policy, and none, since a hundred rows would else wrap each call in an option.
 #[derive(Clone, Copy, PartialEq, Debug)]
 pub enum Call {
     None,

@@ -10,7 +10,7 @@ pub const FRAME_SIZE: Told = (3, 6, 0, 0);
 
 pub const WRONG_STREAM: Told = (4, 1, 0, 5);
 
-pub fn told(fault: Fault) -> Told {
+pub(crate) fn told(fault: Fault) -> Told {
     (
         fault.cause.number(),
         fault.cause.code().number(),

@@ -32,6 +32,7 @@ fn last_value(pairs: Pairs, setting: Parameter) -> Option<u32>
 {
     let identifier = setting.identifier();
     let mut latest = None;
+    // A fold carries the latest no more plainly than this loop.
     for pair in pairs {
         latest = newer(latest, pair, identifier);
     }
