@@ -2,11 +2,6 @@ use Rattle.std.proofs.Common.{vec_items, refl, arith}
 use Rattle.accounts.proofs.Settlements.{part_held, finishes, stays}
 use Rattle.accounts.proofs.bookkeeping.Books.finish.Goals as goal
 
-pub invariant_of-self : goal.invariant_of-self
-invariant_of-self c =
-    let b = stays c.args.self.now c.args.id (vec_items c.remove.new.self.rows) c.in_default.ensures.answers c.remove.ensures.rows in
-    record { within = b.within; sums = b.sums; fair = ∣ b.fair ∣₁ }
-
 pub returns-in_default : goal.returns-in_default
 returns-in_default c =
     let b = stays c.args.self.now c.args.id (vec_items c.remove.new.self.rows) c.in_default.ensures.answers c.remove.ensures.rows in

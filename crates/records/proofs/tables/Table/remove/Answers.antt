@@ -1,10 +1,6 @@
-use Rattle.std.proofs.Common.{vec_items, sym, ◌∙◌, subst}
-use Rattle.records.specs.Tables.{Taken}
+use Rattle.std.proofs.Common.{vec_items, sym, ◌∙◌}
 use Rattle.records.proofs.Rows.{found-is, without-none, without-found}
 use Rattle.records.proofs.tables.Table.remove.Goals as goal
-
-pub returns-in_err-i-clause-answers : goal.returns-in_err-i-clause-answers
-returns-in_err-i-clause-answers g c = subst (Taken g.R.Record.key (vec_items c.args.self.now.rows) c.args.id) (sym c.from_residual.ensures) c.in_err-i.ensures
 
 pub returns-in_err-i-clause-rows : goal.returns-in_err-i-clause-rows
 returns-in_err-i-clause-rows g c = sym (without-none g.R.Record.key (vec_items c.args.self.now.rows) c.args.id c.in_err-i.ensures)
