@@ -23,6 +23,9 @@ impl<'a> Backing for &'a mut [u8] {
     }
 
     fn write(&mut self, at: u32, id: u32, end: bool, payload: &[u8]) {
+        if at as usize + 9 + payload.len() > self.limit() as usize {
+            return;
+        }
         let _ = write_data(self, at as usize, id, end, payload);
     }
 }

@@ -1,5 +1,5 @@
 // A sink over anything with a limit: what is taken is tallied, and each frame handed on.
-ghost use Rattle.std.specs.Prelude.{◌≡◌, ℕ, ◌+◌, ◌≤◌, Bool, List, length};
+ghost use Rattle.std.specs.Prelude.{◌≡◌, ℕ, ◌+◌, ◌<◌, ◌≤◌, Bool, List, length};
 ghost use Rattle.std.proofs.Common.{arith};
 ghost use Rattle.sink.specs.Meaning.{fresh, taken, whole};
 ghost use Rattle.sink.specs.Tallies.{used_by, meaning_of};
@@ -19,9 +19,10 @@ pub trait Backing {
     fn limit(&self) -> u32
         ensures { result ≡ limit self.now };
 
-    // Writes a DATA frame from an octet on, where it keeps frames at all; of a frame that ends behind the limit nothing is promised but the limit.
+    // Writes a DATA frame from an octet on, where it keeps frames at all; one that ends behind the limit is not written.
     fn write(&mut self, at: u32, id: u32, end: bool, payload: &[u8])
         ensures writes { at + (9 + length payload.now) ≤ limit self.old → wrote self.old at id end payload.now self.new }
+        ensures stays { limit self.old < at + (9 + length payload.now) → self.new ≡ self.old }
         ensures limit { limit self.new ≡ limit self.old };
 }
 
