@@ -1,11 +1,13 @@
 -- What is computed of a value is what the grammar says of it.
-use Rattle.std.proofs.Common.{◌≡◌, ℕ, leb, List, length, Some, None, Option, refl, ap, ◌∙◌}
+use Rattle.std.proofs.Common.{◌≡◌, ℕ, leb, List, [], ◌∷◌, length, Some, None, Option, refl, ap, ◌∙◌}
 use Rattle.std.specs.Option.{option_map}
+use Rattle.std.specs.List.{AllByRecursion}
 use Rattle.std.proofs.lemmas.Bool.{cond-true, le-leb, leb-true}
 use Rattle.wire.specs.declared.priorities.Latest.{Latest}
 use Rattle.wire.specs.declared.priorities.Priority.{Priority}
 use Rattle.wire.specs.Grammar.{Member, Value, priority_of, meaning, Readable, Reads}
 use Rattle.wire.specs.Values.{latest_in, value_of}
+use Rattle.wire.specs.Worked.{Example}
 use Rattle.wire.proofs.Meanings.{gathered-latest}
 use Rattle.wire.proofs.Sound.{by_first, sound}
 use Rattle.wire.proofs.Complete.{complete}
@@ -28,3 +30,8 @@ reads bs (Some p) e =
       (from.0, (from.1, leb-true (length bs) 256 way.0)),
       λ ms readable. let is = read_whole bs ms readable in cc,
     )
+
+-- examples whose answers are computed are derived
+pub examples-derived : (es : List Example) → AllByRecursion (λ e. e.answer ≡ value_of e.value) es → AllByRecursion (λ e. Reads e.value e.answer) es
+examples-derived [] h = tt
+examples-derived (e ∷ es) h = (reads e.value e.answer h.0, examples-derived es h.1)

@@ -4,7 +4,7 @@ ghost use Rattle.std.specs.Result.{result_map_both};
 ghost use Rattle.wire.specs.Frames.{header_of, header_octets};
 
 use crate::Fault;
-use crate::numbers::{number, without_top_bit};
+use crate::numbers::{number, put_number, without_top_bit};
 
 // The header of a frame: the payload's length, the type, the flags and the stream id without its reserved bit.
 #[derive(Clone, Copy)]
@@ -51,7 +51,10 @@ pub(crate) fn read_header<'a>(octets: &'a [u8]) -> Result<Whole<'a>, Fault>
 pub(crate) fn header_octets(header: Header) -> [u8; 9]
     ensures { result ≡ header_octets header }
 {
-    let [_, l2, l1, l0] = header.length.to_be_bytes();
-    let [s3, s2, s1, s0] = without_top_bit(header.stream).to_be_bytes();
-    [l2, l1, l0, header.kind, header.flags, s3, s2, s1, s0]
+    let mut octets = [0; 9];
+    put_number(&mut octets[0..3], header.length);
+    octets[3] = header.kind;
+    octets[4] = header.flags;
+    put_number(&mut octets[5..9], without_top_bit(header.stream));
+    octets
 }

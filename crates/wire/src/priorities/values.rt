@@ -1,5 +1,5 @@
 // The members of a priority value, read from the front to the end.
-ghost use Rattle.std.specs.Prelude.{◌≡◌, ℕ, ◌+◌, ◌^◌, ◌<◌, ◌≤◌, Bool, length, is_some, if◌then◌else◌};
+ghost use Rattle.std.specs.Prelude.{◌≡◌, ℕ, ◌+◌, ◌^◌, ◌<◌, ◌≤◌, min, Bool, length, take, is_some, if◌then◌else◌};
 ghost use Rattle.std.specs.Option.{option_map};
 ghost use Rattle.std.specs.List.{prefix_len};
 ghost use Rattle.wire.specs.Grammar.{is_space, is_blank, is_digit, starts_key, goes_on_key, decimal_of};
@@ -35,10 +35,11 @@ fn starts_key(b: u8) -> bool
     matches!(b, b'a'..=b'z' | b'*')
 }
 
+// The ranges stand apart from the single octets, since each letter takes more instructions where one `matches!` has them all.
 fn goes_on_key(b: u8) -> bool
     ensures { result ≡ goes_on_key b }
 {
-    matches!(b, b'a'..=b'z' | b'0'..=b'9' | b'_' | b'-' | b'.' | b'*')
+    b.is_ascii_lowercase() || b.is_ascii_digit() || matches!(b, b'_' | b'-' | b'.' | b'*')
 }
 
 // How many octets at the front pass the test.
@@ -52,17 +53,22 @@ fn run<F: Fn(u8) -> bool>(text: &[u8], test: F) -> usize
     text.iter().take_while(|b| test(**b)).count()
 }
 
-// The number that at most fifteen digits write.
-fn decimal(digits: &[u8]) -> u64
-    requires { length digits.now ≤ 15 }
-    ensures value { result ≡ decimal_of digits.now }
-    ensures bound { result < 10 ^ 17 }
+// How many digits are at the front, counted up to one more than an integer has, and the number that they write.
+fn digits(text: &[u8]) -> (usize, u64)
+    ensures within { result.0 ≤ length text.now }
+    ensures count { result.0 ≡ min 16 (prefix_len is_digit text.now) }
+    ensures value { result.1 ≡ decimal_of (take result.0 text.now) }
+    ensures bound { result.1 < 10 ^ 16 }
 {
+    let most = &text[..text.len().min(DIGITS + 1)];
     let mut number: u64 = 0;
-    for digit in digits {
-        number = number * 10 + u64::from(digit.saturating_sub(b'0'));
+    for (n, digit) in most.iter().enumerate() {
+        if !is_digit(*digit) {
+            return (n, number);
+        }
+        number = number * 10 + u64::from(*digit - b'0');
     }
-    number
+    (most.len(), number)
 }
 
 // What is still to be read of a value.
@@ -100,13 +106,12 @@ impl<'a> Reader<'a> {
         ensures reads { leaving result self.new.rest.now ≡ integer_at negative self.old.rest.now }
         ensures shorter { length self.new.rest.now ≤ length self.old.rest.now }
     {
-        let n = run(self.rest, is_digit);
+        let (n, number) = digits(self.rest);
         if !(1..=DIGITS).contains(&n) {
             return None;
         }
-        let (digits, after) = self.rest.split_at(n);
-        self.rest = after;
-        let size = decimal(digits) as i64;
+        self.rest = &self.rest[n..];
+        let size = number as i64;
         Some(Item::Integer(if negative { -size } else { size }))
     }
 
