@@ -36,7 +36,7 @@ module _ (b i c t : ℕ) (rows : List Account) (id : ℕ) (x : Account) (is : Is
   pub unchanged : (y : Account) → y ≡ x → changed y ≡ rows
   unchanged y e = ap changed (e ∙ is.at) ∙ set-get_or rows (seek (ids rows) id) x
 
-  as_many : (y : Account) → length (changed y) ≡ length rows
+  pub as_many : (y : Account) → length (changed y) ≡ length rows
   as_many y = length-set rows (seek (ids rows) id) y
 
   -- the meaning with the changed account's credit

@@ -19,7 +19,7 @@ books-sound s =
       held = s.within.2;
       some_limit = omega arith;
       least_limit = omega arith;
-      begun = omega (arith, s.table.roomy.0, s.table.rows.ok.0);
+      begun = omega (arith, s.roomy.0, s.table.rows.ok.0);
       zero = zero-none (base s) s.initial (rows_of s) (fair_of s);
       streams = λ id. within-from (base s) s.initial (rows_of s) id s.held all (fair_of s);
     }

@@ -1,5 +1,6 @@
 // The books of a gate: the initial window, the connection's window, and an account for each stream that is begun.
 ghost use Rattle.std.specs.Prelude.{◌≡◌, ◌≤◌};
+ghost use Rattle.records.specs.Tables.{Roomy};
 ghost use Rattle.accounts.specs.Accounts.{held_in, Fairs};
 ghost use Rattle.accounts.specs.Storages.{base_of};
 
@@ -18,6 +19,7 @@ pub struct Books {
     held: u32,
     table: Table<Account>,
     ghost within: { (initial ≤ 2147483647) × (connection ≤ 2147483647) × (held ≤ connection) },
+    ghost roomy: { Roomy table },
     ghost sums: { held ≡ held_in table.rows.items },
     ghost fair: { ∥ Fairs (base_of storage initial) initial table.rows.items ∥₁ },
 }

@@ -1,4 +1,3 @@
 pub mod Ids
 pub mod Rows
 pub mod Lookups
-pub mod Lent

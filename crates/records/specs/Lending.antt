@@ -5,4 +5,4 @@ use Rattle.records.specs.declared.tables.Table.{Table}
 
 -- the table with another record at an index
 abbrev pub with_row : {R : Type 0} → Table R → ℕ → R → Table R
-with_row t i w = record { rows = with_item t.rows i w; roomy = t.roomy }
+with_row t i w = record { rows = with_item t.rows i w }

@@ -1,7 +1,12 @@
 -- A table of records: the record with an id, and the table without it.
-use Rattle.std.specs.Prelude.{◌≡◌, ℕ, ◌<◌, cond, List, [], ◌∷◌, map, length, Some, None, Option, ◌==◌, slice_index_or}
+use Rattle.std.specs.Prelude.{◌≡◌, ℕ, ◌<◌, ◌≤◌, cond, List, [], ◌∷◌, map, length, Some, None, Option, ◌==◌, slice_index_or, vec_len, vec_capacity}
 use Rattle.std.specs.Borrow.{Bor, MutBor}
 use Rattle.records.specs.Records.{Absent, seek}
+use Rattle.records.specs.declared.tables.Table.{Table}
+
+-- a table holds at most 64 records, and has the memory for as many
+abbrev pub Roomy : {R : Type 0} → Table R → Type 0
+Roomy t = (vec_len t.rows ≤ 64) × (64 ≤ vec_capacity t.rows)
 
 -- a record is the first with the id
 pub record Is {X : Type 0} (key : X → ℕ) (rows : List X) (id : ℕ) (x : X) : Type 0 where

@@ -1,9 +1,11 @@
 // A table of at most 64 records, in the order in which they came.
-ghost use Rattle.std.specs.Prelude.{◌≡◌, ◌≤◌, false, [], ◌∷◌, ◌++◌, map, length, IfOk, if◌then◌else◌, None, vec_len, vec_capacity, nat_lt};
+ghost use Rattle.std.specs.Prelude.{◌≡◌, min, false, [], ◌∷◌, ◌++◌, map, length, IfOk, if◌then◌else◌, None, vec_capacity, nat_lt};
 ghost use Rattle.std.specs.Borrow.{sem, follows_if};
 ghost use Rattle.std.specs.Option.{ghost_name_of as name_of};
 ghost use Rattle.records.specs.Records.{Finds, seek};
-ghost use Rattle.records.specs.Tables.{Found, FoundMut, without, Taken};
+ghost use Rattle.records.specs.Tables.{Found, FoundMut, without, Taken, Roomy};
+ghost use Rattle.records.specs.Lending.{with_row};
+ghost use Rattle.records.specs.contracts.tables.Table.{the_row};
 
 use crate::lookup::{Record, find};
 use std::alloc::{AllocError, Global};
@@ -11,20 +13,16 @@ use std::alloc::{AllocError, Global};
 // The most records that a table holds.
 const LIMIT: usize = 64;
 
-// A table holds at most 64 records, and has the memory for as many.
+// A plain table: nothing is promised of it but what its calls say. One that was made here has room, and every call keeps that.
 #[derive(Drop)]
 pub struct Table<R> {
     pub rows: Vec<R>,
-    ghost roomy: { (vec_len rows ≤ 64) × (64 ≤ vec_capacity rows) },
 }
 
 impl<R: Record + Drop> Table<R> {
-    ghost use Rattle.records.specs.Lending.{with_row};
-    ghost use Rattle.records.specs.contracts.tables.Table.{the_row};
-
     // An empty table, with the memory for 64 records; only here can memory be wanting.
     pub fn new(heap: Global) -> Result<Table<R>, AllocError>
-        ensures { IfOk result (λ t. t.rows.items ≡ []) }
+        ensures { IfOk result (λ t. (t.rows.items ≡ []) × Roomy t) }
     {
         let rows = Vec::with_capacity(heap, LIMIT)?;
         Ok(Table { rows })
@@ -63,12 +61,14 @@ impl<R: Record + Drop> Table<R> {
 
     // Adds a record behind the others; false where the table is full, which then is as it was.
     pub fn add(&mut self, row: R) -> bool
-        ensures answers { result ≡ nat_lt (length self.old.rows.items) 64 }
+        ensures answers { result ≡ nat_lt (length self.old.rows.items) (min 64 (vec_capacity self.old.rows)) }
+        ensures limit { Roomy self.old → result ≡ nat_lt (length self.old.rows.items) 64 }
         ensures rows { self.new.rows.items ≡ (if result then self.old.rows.items ++ row ∷ [] else self.old.rows.items) }
         ensures memory { vec_capacity self.new.rows ≡ vec_capacity self.old.rows }
         ensures stays { result ≡ false → self.new ≡ self.old }
+        ensures room { Roomy self.old → Roomy self.new }
     {
-        if self.len() >= LIMIT {
+        if self.len() >= LIMIT.min(self.rows.capacity()) {
             return false;
         }
         self.rows.push_reserved(row);
@@ -81,6 +81,7 @@ impl<R: Record + Drop> Table<R> {
         ensures rows { self.new.rows.items ≡ without R.Record.key id self.old.rows.items }
         ensures memory { vec_capacity self.new.rows ≡ vec_capacity self.old.rows }
         ensures stays { result ≡ None → self.new ≡ self.old }
+        ensures room { Roomy self.old → Roomy self.new }
     {
         let i = self.place(id)?;
         Some(self.rows.remove(i))

@@ -6,7 +6,7 @@ use Rattle.std.specs.Option.{option_map}
 use Rattle.std.proofs.lemmas.Bool.{true≢false, false≢true, lt-ltb, cond-true}
 use Rattle.std.proofs.lemmas.Bool.Decides.{nat_tests}
 use Rattle.records.specs.Records.{seek, Absent}
-use Rattle.records.specs.Tables.{Is, Found, without}
+use Rattle.records.specs.Tables.{Is, Found, Taken, without}
 use Rattle.records.proofs.Lookups.{record-absent, record-found, length_without}
 use Rattle.wire.specs.declared.priorities.Priority.{Priority}
 use Rattle.wire.specs.Urgencies.{urgency_number}
@@ -50,6 +50,11 @@ not-out xs id x is none = true≢false (sym (is_in xs id x is) ∙ ap is_some no
 
 pub not_in : (xs : List Seat) (id : ℕ) → Absent (map id_of xs) id → is_some ((ranked xs).rank id) ≢ true
 not_in xs id none is = true≢false (sym is ∙ ap is_some (is-out xs id none))
+
+-- the seat that a table takes out is the id's
+pub seat-taken : (xs : List Seat) (id : ℕ) (r : Option Seat) → Taken id_of xs id r → seat_of xs id ≡ r
+seat-taken xs id None none = record-absent id_of xs id none
+seat-taken xs id (Some x) is = record-found id_of xs id x is
 
 -- the seat that a table lends is the id's, so the id is in exactly where one is lent
 pub seat-lent : (xs : List Seat) (id : ℕ) (r : Option (Bor Seat)) → Found id_of xs id r → seat_of xs id ≡ option_map (λ x. x.now) r

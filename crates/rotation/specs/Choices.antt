@@ -10,29 +10,29 @@ use Rattle.rotation.specs.declared.standings.Group.TheVariants.{Plain, New, Serv
 use Rattle.rotation.specs.declared.standings.Standing.{Standing}
 use Rattle.rotation.specs.Orders.{id_of, seat_of}
 
--- a seat of an urgency stands in a group under a number
-abbrev pub standing : Seat → Group → ℕ → Standing
-standing x group number = record { urgency = urgency_number x.priority.urgency; group = group; number = number }
-
--- turns: within an urgency those never served come first, by id, and then the others by their place in the order
-abbrev pub in_turn : ℕ → Seat → Standing
-in_turn place x = cond x.served (standing x Served place) (standing x New x.id)
-
--- ordered: within an urgency those that are not incremental come first, by id, and then the others as in turns
-abbrev pub plain_first : ℕ → Seat → Standing
-plain_first place x = cond x.priority.incremental (in_turn place x) (standing x Plain x.id)
-
--- the groups, the first one first
+-- the numbers of our groups, the first one first
 abbrev pub group_number : Group → ℕ
 group_number Plain = 0
 group_number New = 1
 group_number Served = 2
 
--- a standing comes before another: the smaller urgency first, then the earlier group, then the smaller number
+-- a seat of an urgency stands in a group under a number
+abbrev pub standing : Seat → ℕ → ℕ → Standing
+standing x group number = record { urgency = urgency_number x.priority.urgency; group = group; number = number }
+
+-- turns: within an urgency those never served come first, by id, and then the others by their place in the order
+abbrev pub in_turn : ℕ → Seat → Standing
+in_turn place x = cond x.served (standing x (group_number Served) place) (standing x (group_number New) x.id)
+
+-- ordered: within an urgency those that are not incremental come first, by id, and then the others as in turns
+abbrev pub plain_first : ℕ → Seat → Standing
+plain_first place x = cond x.priority.incremental (in_turn place x) (standing x (group_number Plain) x.id)
+
+-- a standing comes before another: the smaller urgency first, then the smaller group, then the smaller number
 abbrev pub before : Standing → Standing → Bool
 before s t =
     cond (s.urgency == t.urgency)
-    (cond (group_number s.group == group_number t.group) (nat_lt s.number t.number) (nat_lt (group_number s.group) (group_number t.group)))
+    (cond (s.group == t.group) (nat_lt s.number t.number) (nat_lt s.group t.group))
     (nat_lt s.urgency t.urgency)
 
 -- where an id stands under a rule; none where it has no seat

@@ -5,22 +5,8 @@ use Rattle.std.proofs.Common.{arith, sym, ◌∙◌, ap, subst, inl, inr, ⊎_el
 use Rattle.std.proofs.lemmas.Bool.Decides.{nat_tests}
 use Rattle.std.proofs.lemmas.Bool.{cases_Bool}
 use Rattle.schedule.specs.Ranks.{Listed}
-use Rattle.rotation.specs.declared.standings.Group.{Group}
-use Rattle.rotation.specs.declared.standings.Group.TheVariants.{Plain, New, Served}
 use Rattle.rotation.specs.declared.standings.Standing.{Standing}
-use Rattle.rotation.specs.Choices.{group_number, before, sooner, better, chosen, ComesFirst, First}
-
--- a group is told by its number
-same_group : (g h : Group) → group_number g ≡ group_number h → g ≡ h
-same_group Plain Plain e = refl
-same_group New New e = refl
-same_group Served Served e = refl
-same_group Plain New e = absurd cc
-same_group Plain Served e = absurd cc
-same_group New Plain e = absurd cc
-same_group New Served e = absurd cc
-same_group Served Plain e = absurd cc
-same_group Served New e = absurd cc
+use Rattle.rotation.specs.Choices.{before, sooner, better, chosen, ComesFirst, First}
 
 -- standings are in a total order
 pub before-trans : (s t u : Standing) → before s t ≡ true → before t u ≡ true → before s u ≡ true
@@ -32,7 +18,7 @@ before-else s t h = ⊎_elim inr (λ k. inl (same k)) (cases_Bool (before t s))
     same : before t s ≡ false → s ≡ t
     same k =
         let u : s.urgency ≡ t.urgency = grind (arith, nat_tests) in
-        let g : s.group ≡ t.group = same_group s.group t.group (grind (arith, nat_tests)) in
+        let g : s.group ≡ t.group = grind (arith, nat_tests) in
         let n : s.number ≡ t.number = grind (arith, nat_tests) in
         λ j. record { urgency = u j; group = g j; number = n j }
 

@@ -1,5 +1,6 @@
 // A rotation: an order of seats under a rule.
 ghost use Rattle.std.specs.Prelude.{◌≡◌, [], IfOk, None};
+ghost use Rattle.records.specs.Tables.{Roomy};
 ghost use Rattle.schedule.specs.Ranks.{fresh};
 ghost use Rattle.rotation.specs.Orders.{ranked, Distinct, distinct_prop};
 ghost use Rattle.rotation.specs.Choices.{standing_of, better, chosen, First};
@@ -18,6 +19,7 @@ pub mod calls;
 pub struct Rotation<R> {
     table: Table<Seat>,
     rule: PhantomData<R>,
+    pub ghost roomy: { Roomy table },
     pub ghost distinct: { Distinct table.rows.items } by { distinct_prop table.rows.items },
 }
 

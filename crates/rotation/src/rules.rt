@@ -39,13 +39,13 @@ impl Rule for InTurn {
         if seat.served {
             Standing {
                 urgency,
-                group: Group::Served,
+                group: Group::Served.number(),
                 number: place as u64,
             }
         } else {
             Standing {
                 urgency,
-                group: Group::New,
+                group: Group::New.number(),
                 number: u64::from(seat.id),
             }
         }
@@ -68,7 +68,7 @@ impl Rule for PlainFirst {
         }
         Standing {
             urgency: seat.priority.urgency.number(),
-            group: Group::Plain,
+            group: Group::Plain.number(),
             number: u64::from(seat.id),
         }
     }

@@ -1,8 +1,8 @@
 // Where a seat stands among others.
 ghost use Rattle.std.specs.Prelude.{◌≡◌};
-ghost use Rattle.rotation.specs.Choices.{sooner};
+ghost use Rattle.rotation.specs.Choices.{group_number, sooner};
 
-// The groups within an urgency, the first one first.
+// Our groups within an urgency, the first one first.
 #[derive(Clone, Copy, PartialEq, Eq, PartialOrd, Ord)]
 pub enum Group {
     // Not incremental, where a rule prefers such.
@@ -13,12 +13,22 @@ pub enum Group {
     Served,
 }
 
-// Where a seat stands: the smaller urgency comes first, then the earlier group, then the smaller number.
+impl Group {
+    // The group's number, from 0 to 2.
+    pub fn number(self) -> u8
+        ensures { result ≡ group_number self }
+    {
+        self as u8
+    }
+}
+
+// Where a seat stands: the smaller urgency comes first, then the smaller group, then the smaller number.
 #[derive(Clone, Copy, PartialEq, Eq, PartialOrd, Ord)]
 pub struct Standing {
     // The law of a rule is on the number of an urgency.
     pub urgency: u8,
-    pub group: Group,
+    // A number, so that a rule may have other groups than ours.
+    pub group: u8,
     pub number: u64,
 }
 

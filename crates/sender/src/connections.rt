@@ -1,5 +1,6 @@
 // A connection: its gate, its policy, the table of its open streams, and what it counts.
 ghost use Rattle.std.specs.Prelude.{◌≡◌, true};
+ghost use Rattle.records.specs.Tables.{Roomy};
 ghost use Rattle.sender.specs.Streams.{ordered};
 
 use crate::streams::Stream;
@@ -24,5 +25,6 @@ pub struct Connection<G, P> {
     frame_size: u32,
     highest: u32,
     given: u32,
+    ghost roomy: { Roomy streams },
     ghost order: { ordered 0 highest streams.rows.items ≡ true },
 }

@@ -13,9 +13,9 @@ use Rattle.rotation.specs.Choices.{group_number, in_turn, plain_first, before}
 use Rattle.waiting.specs.Histories.{Longer, last_served, Earlier, Placed}
 use Rattle.waiting.specs.Waits.{waited_longer, PlainFirst, plain_or_waited, GoesBefore}
 
--- a standing in a group under a number
+-- a standing in a group of ours under a number
 abbrev at : ℕ → Group → ℕ → Standing
-at urgency group number = record { urgency = urgency; group = group; number = number }
+at urgency group number = record { urgency = urgency; group = group_number group; number = number }
 
 -- what comes before by place has waited longer
 abbrev turn : ℕ → Bool → ℕ → ℕ → Standing

@@ -48,7 +48,7 @@ impl Layout for Offset {
 pub struct Windows<L: Layout> {
     books: Books,
     layout: PhantomData<L>,
-    ghost stored: { books.storage ≡ L.Layout.stored },
+    pub ghost stored: { books.storage ≡ L.Layout.stored },
 }
 
 // Stores each stream's window as it stands.

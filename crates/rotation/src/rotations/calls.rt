@@ -35,6 +35,9 @@ impl<R: Rule> Policy for Rotation<R> {
     ghost means = { λ s event t turned. turned-means s.table.rows.items t.table.rows.items event s.distinct turned };
 
     fn enter(&mut self, id: u32, priority: Priority) -> bool {
+        if self.table.len() >= LIMIT {
+            return false;
+        }
         if self.table.get(id).is_some() {
             return false;
         }

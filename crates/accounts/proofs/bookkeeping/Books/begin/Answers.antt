@@ -25,12 +25,12 @@ pub invariant_of-self : goal.invariant_of-self
 invariant_of-self c =
     let s = c.args.self.now in
     let none = not-begun (rows_of s) c.args.id c.get.result c.get.ensures (sym c.is_some.ensures ∙ c.if-is_some.false) in
-    let b = begins s c.args.id c.base.result (vec_items c.add.new.self.rows) c.add.result c.base.ensures.value none c.if-id-eq0.false c.add.ensures.answers c.add.ensures.rows in
-    record { within = b.within; sums = b.sums; fair = ∣ b.fair ∣₁ }
+    let b = begins s c.args.id c.base.result (vec_items c.add.new.self.rows) c.add.result c.base.ensures.value none c.if-id-eq0.false (c.add.ensures.limit s.roomy) c.add.ensures.rows in
+    record { within = b.within; roomy = c.add.ensures.room s.roomy; sums = b.sums; fair = ∣ b.fair ∣₁ }
 
 pub returns : goal.returns
 returns c =
     let s = c.args.self.now in
     let none = not-begun (rows_of s) c.args.id c.get.result c.get.ensures (sym c.is_some.ensures ∙ c.if-is_some.false) in
-    let b = begins s c.args.id c.base.result (vec_items c.add.new.self.rows) c.add.result c.base.ensures.value none c.if-id-eq0.false c.add.ensures.answers c.add.ensures.rows in
+    let b = begins s c.args.id c.base.result (vec_items c.add.new.self.rows) c.add.result c.base.ensures.value none c.if-id-eq0.false (c.add.ensures.limit s.roomy) c.add.ensures.rows in
     record { answers = b.answers; leaves = b.leaves; storage = refl }

@@ -13,7 +13,7 @@ overflow_sub-self c = omega (arith, c.amount.ensures, part_held c.args.self.now 
 pub invariant_of-self-2 : goal.invariant_of-self-2
 invariant_of-self-2 c =
     let b = finishes c.args.self.now c.args.id c.in-Some.account c.in-Some.ensures.answers c.amount.result (vec_items c.remove.new.self.rows) c.amount.ensures c.remove.ensures.rows in
-    record { within = b.within; sums = b.sums; fair = ∣ b.fair ∣₁ }
+    record { within = b.within; roomy = c.remove.ensures.room c.args.self.now.roomy; sums = b.sums; fair = ∣ b.fair ∣₁ }
 
 pub returns : goal.returns
 returns c =

@@ -17,7 +17,7 @@ returns-then-not-hold c =
 pub invariant_of-self-2 : goal.invariant_of-self-2
 invariant_of-self-2 c =
     let b = holds c.args.self.now c.args.id c.in-Some.account.now c.in-Some.ensures.finds c.args.n c.base-base.result c.hold.new.self c.hold.result true c.if-not-hold.false c.base-base.ensures.value (omega arith) c.hold.ensures.answers c.hold.ensures.leaves in
-    record { within = b.within; sums = b.sums; fair = ∣ b.fair ∣₁ }
+    record { within = b.within; roomy = c.args.self.now.roomy; sums = b.sums; fair = ∣ b.fair ∣₁ }
 
 pub returns : goal.returns
 returns c =

@@ -17,12 +17,12 @@ renew_all-requires c =
     let all = subst (AllByRecursion (Fits (s.initial - c.base.result) c.args.v)) c.as_slice.ensures.value (c.all_fit.ensures.0 c.if-not-all_fit.false) in
     subst (Renewable s.storage (s.initial - c.base.result) c.args.v) (sym c.as_mut_slice.ensures.value) (may-renew s c.args.v c.base.result c.base.ensures.value all)
 
-pub invariant_of-self-2 : goal.invariant_of-self-2
-invariant_of-self-2 c =
+pub invariant_of-self : goal.invariant_of-self
+invariant_of-self c =
     let s = c.args.self.now in
     let all = subst (AllByRecursion (Fits (s.initial - c.base.result) c.args.v)) c.as_slice.ensures.value (c.all_fit.ensures.0 c.if-not-all_fit.false) in
     let r = renews s c.args.v c.base.result c.renew_all.new.accounts c.base.ensures.value (omega arith) all (c.renew_all.ensures ∙ ap (renewed_by s.storage (s.initial - c.base.result) c.args.v) c.as_mut_slice.ensures.value) in
-    record { within = (omega arith, s.within.1, s.within.2); sums = s.sums ∙ sym r.held; fair = ∣ r.fair ∣₁ }
+    record { within = (omega arith, s.within.1, s.within.2); roomy = s.roomy; sums = s.sums ∙ sym r.held; fair = ∣ r.fair ∣₁ }
 
 pub returns : goal.returns
 returns c =

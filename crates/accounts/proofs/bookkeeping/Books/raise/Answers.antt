@@ -12,7 +12,7 @@ returns-in_default c =
 pub invariant_of-self-2 : goal.invariant_of-self-2
 invariant_of-self-2 c =
     let b = raises c.args.self.now c.args.id c.in-Some.account.now c.in-Some.ensures.finds c.args.v c.base-base.result c.raise.new.self c.raise.result c.base-base.ensures.value c.if-id-eq0.false c.raise.ensures.answers c.raise.ensures.leaves in
-    record { within = b.within; sums = b.sums; fair = ∣ b.fair ∣₁ }
+    record { within = b.within; roomy = c.args.self.now.roomy; sums = b.sums; fair = ∣ b.fair ∣₁ }
 
 pub returns : goal.returns
 returns c =

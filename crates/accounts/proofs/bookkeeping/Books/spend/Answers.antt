@@ -47,7 +47,7 @@ overflow_sub-self-2 c = let b = covered c in omega (arith, c.amount-amount.ensur
 pub invariant_of-self-2 : goal.invariant_of-self-2
 invariant_of-self-2 c =
     let b = spends c.args.self.now c.args.id c.in-Some.account.now c.in-Some.ensures.finds c.args.n c.base-base.result c.amount-amount.result c.spend.new.self c.spend.result true c.if-not-spend.false c.base-base.ensures.value c.amount-amount.ensures c.spend.ensures.answers c.spend.ensures.leaves in
-    record { within = b.within; sums = b.sums; fair = ∣ b.fair ∣₁ }
+    record { within = b.within; roomy = c.args.self.now.roomy; sums = b.sums; fair = ∣ b.fair ∣₁ }
 
 pub returns : goal.returns
 returns c =

@@ -7,7 +7,7 @@ pub invariant_of-self : goal.invariant_of-self
 invariant_of-self g c =
     let s = c.args.self.now in
     let xs = vec_items s.streams.rows in
-    record { order = shrunk-ordered xs _ s.highest c.args.id s.order c.remove.ensures.rows }
+    record { roomy = c.remove.ensures.room s.roomy; order = shrunk-ordered xs _ s.highest c.args.id s.order c.remove.ensures.rows }
 
 pub returns : goal.returns
 returns g c k tied is =

@@ -23,7 +23,7 @@ invariant_of-self-2 g c =
     let s = c.args.self.now in
     let xs = vec_items s.streams.rows in
     let is = c.in-Some.ensures.finds in
-    record { order = ordered-set 0 s.highest c.args.id xs c.offer.new.self (offers-named c.in-Some.stream.now c.args.octets c.args.end c.offer.result c.offer.new.self c.offer.ensures ∙ is.named) is.there s.order }
+    record { roomy = s.roomy; order = ordered-set 0 s.highest c.args.id xs c.offer.new.self (offers-named c.in-Some.stream.now c.args.octets c.args.end c.offer.result c.offer.new.self c.offer.ensures ∙ is.named) is.there s.order }
 
 pub returns : goal.returns
 returns g c k tied =

@@ -22,7 +22,7 @@ pub invariant_of-self : goal.invariant_of-self
 invariant_of-self g c =
     let s = c.args.self.now in
     let a = c.in_ok-openable.ensures in
-    record { order = ordered-wider 0 0 s.highest c.args.id (vec_items s.streams.rows) (omega arith) (omega arith) s.order }
+    record { roomy = s.roomy; order = ordered-wider 0 0 s.highest c.args.id (vec_items s.streams.rows) (omega arith) (omega arith) s.order }
 
 pub returns-then-full : goal.returns-then-full
 returns-then-full g c =

@@ -15,12 +15,12 @@ now-altered : (order : List Seat) (id : ℕ) (p : Priority) (x : Seat) → Is id
 now-altered order id p x is = record { accepted = is_in order id x is; order = altering-found order id p x is.there is.at }
 
 pub returns-in_default : goal.returns-in_default
-returns-in_default g c = refused (not_in (vec_items c.args.self.now.table.rows) c.args.id c.in_default.ensures.finds) (same c.args.self.now _)
+returns-in_default g c = refused (not_in (vec_items c.args.self.now.table.rows) c.args.id c.in_default.ensures.finds) (same c.args.self.now _ _)
 
 pub invariant_of-self-2 : goal.invariant_of-self-2
 invariant_of-self-2 g c =
     let order = vec_items c.args.self.now.table.rows in
-    record { distinct = distinct-turned order _ (altered c.args.id c.args.priority) c.args.self.now.distinct (now-altered order c.args.id c.args.priority c.in-Some.seat.now c.in-Some.ensures.finds) }
+    record { roomy = c.args.self.now.roomy; distinct = distinct-turned order _ (altered c.args.id c.args.priority) c.args.self.now.distinct (now-altered order c.args.id c.args.priority c.in-Some.seat.now c.in-Some.ensures.finds) }
 
 pub returns : goal.returns
 returns g c = let t = now-altered (vec_items c.args.self.now.table.rows) c.args.id c.args.priority c.in-Some.seat.now c.in-Some.ensures.finds in done refl t.accepted t
