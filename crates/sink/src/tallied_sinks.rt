@@ -31,7 +31,7 @@ pub trait Backing {
 pub struct Tallied<B: Backing> {
     backing: B,
     tally: Tally,
-    ghost adds_up: { whole (meaning_of tally) ≡ B.Backing.limit backing },
+    pub ghost adds_up: { whole (meaning_of tally) ≡ B.Backing.limit backing },
 }
 
 impl<B: Backing> Tallied<B> {
