@@ -13,7 +13,7 @@ use std::alloc::{AllocError, Global};
 // The most records that a table holds.
 const LIMIT: usize = 64;
 
-// A plain table: nothing is promised of it but what its calls say. One that was made here has room, and every call keeps that.
+// A plain table: nothing is promised of it but what its calls say, and they keep the room that a new one has.
 #[derive(Drop)]
 pub struct Table<R> {
     pub rows: Vec<R>,
