@@ -109,7 +109,7 @@ fn read_reset_stream<'a>(whole: Whole<'a>) -> Result<Frame<'a>, Fault>
     })
 }
 
-// Where LLVM chooses when to inline this, `read_frame` takes up to half as many instructions more.
+// Where LLVM is left to choose whether to inline this, some frames take up to half as many instructions more.
 #[inline(always)]
 fn read_priority_update<'a>(whole: Whole<'a>) -> Result<Frame<'a>, Fault>
     ensures { told result ≡ priority_update_frame whole.entry.header whole.entry.octets.now }
